@@ -1,0 +1,47 @@
+-- What the tests of a column come to, as the readers make them. Assumes nothing.
+use Prim.Native.Nat.{ℕ, _^_, _-_, _≤_, _<_}
+use mathlib.Core.Path.{_≡_}
+use mathlib.Core.Bool.{Bool, true, false, not, _&&_}
+use mathlib.Core.List.{List}
+use native.Mathlib.Omega.{arith}
+use borrow.Author.Tests.{eqb-true, leb-true}
+use lib.Dec.{leb, eqb}
+use lib.ListN.{length, getD}
+use Rattle.columns.specs.declared.Number.the-variants.{Bad}
+use Rattle.columns.specs.declared.Signed.the-variants.{Bad as BadSigned}
+use Rattle.columns.specs.Column.{columnOf, valueFrom, sameBytes, hasMinus, numberIf, numberOf, signedIf, signedOf}
+use Rattle.columns.proofs.Same.{both}
+use Rattle.columns.proofs.Values.{value-room, most}
+
+abbrev pub begins : List ℕ → Bool
+begins column = leb (length column) 19 && eqb (getD column 0 0) 32
+
+module _ (column : List ℕ) where
+  pub narrow : begins column ≡ true → length column ≤ 19
+  narrow b = leb-true _ _ (both _ _ b .0)
+
+  -- a column's value fits an i64 with either sign
+  pub value-fits : begins column ≡ true → valueFrom 0 column < 10 ^ 18
+  value-fits b =
+      let l : length column ≤ 19 = narrow b in
+      let v = value-room column (eqb-true _ _ (both (leb (length column) 19) _ b .1)) .1 in
+      omega (arith, most (length column - 1) 18 (omega arith))
+
+  pub number-refused : begins column ≡ false → Bad ≡ numberOf column
+  unfolding numberOf
+  number-refused b = rw b
+
+  pub signed-refused : begins column ≡ false → BadSigned ≡ signedOf column
+  unfolding signedOf
+  signed-refused b = rw b
+
+  module _ (n : ℕ) (b : begins column ≡ true) (e : n ≡ valueFrom 0 column) where
+    pub number-judged : (test : Bool) → sameBytes (columnOf false (length column) n) column ≡ test → numberIf test n ≡ numberOf column
+    unfolding numberOf
+    number-judged test t = rw (b, ← e, t)
+
+    pub signed-judged : (minus test none : Bool)
+        → hasMinus column ≡ minus → sameBytes (columnOf minus (length column) n) column ≡ test → eqb n 0 ≡ none
+        → signedIf (test && not (minus && none)) minus n ≡ signedOf column
+    unfolding signedOf
+    signed-judged minus test none m t z = rw (b, ← e, m, t, z)

@@ -1,0 +1,12 @@
+pub mod Clauses
+pub mod Fill
+pub mod Same
+pub mod Values
+pub mod Front
+pub mod Minus
+pub mod Sides
+pub mod Judged
+pub mod Lists
+pub mod Lines
+pub mod Laws
+pub mod PlaceLaws

@@ -1,0 +1,99 @@
+-- The lines of a text: the first one byte by byte, what joins to the text, and a line of columns read back. Assumes nothing.
+use Prim.Native.Nat.{ℕ, zero, suc, _+_, _/_, _%_, _≤_, _<_}
+use mathlib.Core.Path.{_≡_, refl, sym, ap, _∙_}
+use mathlib.Core.Bool.{Bool, true, false, cond, not, _&&_}
+use mathlib.Core.List.{List, [], _∷_, _++_}
+use native.Mathlib.Omega.{arith}
+use native.Mathlib.Numerals.{add-one}
+use borrow.Author.Tests.{eq-eqb, ne-eqb}
+use lib.Dec.{eqb, eqb·suc-zero}
+use lib.ListN.{length, getD, take, drop, length-append}
+use lib.Seq.{drop-cons, drop-length, take-append-seam, drop-append-seam}
+use Rattle.columns.specs.Column.{byteBefore, leadOf, columnOf}
+use Rattle.columns.specs.Fields.{columnsOf}
+use Rattle.columns.specs.Line.{firstLine, afterLine}
+use Rattle.columns.specs.Laws.{LinesJoin, LineReadBack}
+use Rattle.columns.proofs.Clauses.{firstLine-cons}
+
+module _ (text : List ℕ) (i : ℕ) where
+  -- the line from i on ends after an LF, goes on after any other byte, and ends at the text's end
+  pub ends-here : i < length text → getD text i 0 ≡ 10 → i + length (firstLine (drop i text)) ≡ i + 1
+  ends-here h e = rw (drop-cons text i 0 h, firstLine-cons, eq-eqb (getD text i 0) 10 e)
+
+  pub goes-on : i < length text → (getD text i 0 ≡ 10 → ⊥) → i + length (firstLine (drop i text)) ≡ i + 1 + length (firstLine (drop (i + 1) text))
+  goes-on h e = rw (add-one, drop-cons text i 0 h, firstLine-cons, ne-eqb (getD text i 0) 10 e) (omega arith)
+
+  pub ends-last : i ≡ length text → i + length (firstLine (drop i text)) ≡ i
+  unfolding firstLine
+  ends-last e = rw (e, drop-length) (omega arith)
+
+-- bytes without an LF
+abbrev pub Plain : List ℕ → Type 0
+Plain [] = Unit
+Plain (byte ∷ bytes) = (byte ≡ 10 → ⊥) × Plain bytes
+
+pub plain-append : (xs ys : List ℕ) → Plain xs → Plain ys → Plain (xs ++ ys)
+plain-append [] ys p q = q
+plain-append (x ∷ xs) ys p q = (p .0, plain-append xs ys (p .1) q)
+
+digit-plain : (n : ℕ) → 48 + n % 10 ≡ 10 → ⊥
+digit-plain n e = omega arith
+
+before-plain : (minus : Bool) (n : ℕ) → byteBefore minus n ≡ 10 → ⊥
+before-plain true zero e = omega arith
+before-plain false zero e = omega arith
+before-plain minus (suc n) e = digit-plain (suc n) (simp eqb·suc-zero at e)
+
+lead-plain : (minus : Bool) (w n : ℕ) → Plain (leadOf minus w n)
+unfolding leadOf
+lead-plain minus zero n = tt
+lead-plain minus (suc w) n =
+    let due = minus && not (eqb n 0) in
+    plain-append (leadOf due w (n / 10)) (byteBefore minus n ∷ []) (lead-plain due w (n / 10)) (before-plain minus n, tt)
+
+-- no column has an LF
+pub plain-column : (minus : Bool) (w n : ℕ) → Plain (columnOf minus w n)
+unfolding columnOf
+plain-column minus zero n = tt
+plain-column minus (suc w) n = plain-append (leadOf minus w (n / 10)) ((48 + n % 10) ∷ []) (lead-plain minus w (n / 10)) (digit-plain n, tt)
+
+pub plain-columns : (ws ns : List ℕ) → Plain (columnsOf ws ns)
+unfolding columnsOf
+plain-columns [] ns = tt
+plain-columns (w ∷ ws) [] = tt
+plain-columns (w ∷ ws) (n ∷ ns) = plain-append (columnOf false w n) (columnsOf ws ns) (plain-column false w n) (plain-columns ws ns)
+
+-- bytes without an LF, and an LF after them, are a line
+pub first-plain : (bytes rest : List ℕ) → Plain bytes → firstLine (bytes ++ (10 ∷ rest)) ≡ bytes ++ (10 ∷ [])
+unfolding firstLine
+first-plain [] rest p = refl
+first-plain (x ∷ bytes) rest p = rw (ne-eqb x 10 (p .0), first-plain bytes rest (p .1))
+
+pub after-plain : (bytes rest : List ℕ) → Plain bytes → afterLine (bytes ++ (10 ∷ rest)) ≡ rest
+unfolding afterLine
+after-plain [] rest p = refl
+after-plain (x ∷ bytes) rest p = rw (ne-eqb x 10 (p .0), after-plain bytes rest (p .1))
+
+pub lines-join : LinesJoin
+unfolding firstLine afterLine
+lines-join [] = refl
+lines-join (byte ∷ bytes) = by-test (eqb byte 10) (lines-join bytes)
+  where
+    by-test : (t : Bool) → firstLine bytes ++ afterLine bytes ≡ bytes → (byte ∷ cond t [] (firstLine bytes)) ++ cond t bytes (afterLine bytes) ≡ byte ∷ bytes
+    by-test true e = refl
+    by-test false e = rw e
+
+pub line-read-back : LineReadBack
+line-read-back letter widths numbers rest h =
+    let p : Plain (letter ∷ columnsOf widths numbers) = (h, plain-columns widths numbers) in
+    (first-plain (letter ∷ columnsOf widths numbers) rest p, after-plain (letter ∷ columnsOf widths numbers) rest p)
+
+-- a text's first line is its first part, and the rest follows
+pub first-part : (text : List ℕ) → take (length (firstLine text)) text ≡ firstLine text
+first-part text = ap (take (length (firstLine text))) (sym (lines-join text)) ∙ take-append-seam (firstLine text) (afterLine text)
+
+pub after-part : (text : List ℕ) → drop (length (firstLine text)) text ≡ afterLine text
+after-part text = ap (drop (length (firstLine text))) (sym (lines-join text)) ∙ drop-append-seam (firstLine text) (afterLine text)
+
+pub first-line-length : (text : List ℕ) → length (firstLine text) ≤ length text
+first-line-length text = omega (arith, ap length (lines-join text), length-append (firstLine text) (afterLine text))

@@ -1,0 +1,5 @@
+pub mod Column
+pub mod Fields
+pub mod Line
+pub mod Place
+pub mod Laws
