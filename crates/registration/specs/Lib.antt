@@ -1,0 +1,4 @@
+pub mod Below
+pub mod Code
+pub mod Rules
+pub mod Damage
