@@ -27,6 +27,7 @@ unfoldable pub columnOf : Bool → ℕ → ℕ → List ℕ
 columnOf minus zero n = []
 columnOf minus (suc w) n = leadOf minus w (n / 10) ++ ((48 + n % 10) ∷ [])
 
+-- whether a value is below 0
 abbrev pub isNegative : ℤ → Bool
 isNegative (pos n) = false
 isNegative (negsuc n) = true
@@ -37,6 +38,7 @@ signedColumnOf w value = columnOf (isNegative value) w (natAbs value)
 
 -- ---- what is read
 
+-- what a byte counts as a digit, 0 where it is none
 abbrev pub digitOf : ℕ → ℕ
 digitOf byte = cond (ltb byte 48) 0 (cond (ltb 57 byte) 0 (byte - 48))
 
@@ -45,6 +47,7 @@ unfoldable pub valueFrom : ℕ → List ℕ → ℕ
 valueFrom v [] = v
 valueFrom v (byte ∷ bytes) = valueFrom (v * 10 + digitOf byte) bytes
 
+-- whether two lists of bytes are equal
 unfoldable pub sameBytes : List ℕ → List ℕ → Bool
 sameBytes [] [] = true
 sameBytes [] (y ∷ ys) = false
@@ -56,6 +59,7 @@ abbrev pub isColumn : Bool → List ℕ → Bool
 isColumn minus column =
     leb (length column) 19 && eqb (getD column 0 0) 32 && sameBytes (columnOf minus (length column) (valueFrom 0 column)) column
 
+-- a number, if it was in its column
 abbrev pub numberIf : Bool → ℕ → Number
 numberIf true n = Is n
 numberIf false n = Bad
@@ -64,10 +68,12 @@ numberIf false n = Bad
 unfoldable pub numberOf : List ℕ → Number
 numberOf column = numberIf (isColumn false column) (valueFrom 0 column)
 
+-- whether a minus stands among the bytes
 unfoldable pub hasMinus : List ℕ → Bool
 hasMinus [] = false
 hasMinus (byte ∷ bytes) = eqb byte 45 || hasMinus bytes
 
+-- a value with its sign, if it was in its column
 abbrev pub signedIf : Bool → Bool → ℕ → Signed
 signedIf true true n = IsSigned (negℤ (pos n))
 signedIf true false n = IsSigned (pos n)

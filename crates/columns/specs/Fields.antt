@@ -20,6 +20,7 @@ columnsOf [] numbers = []
 columnsOf (w ∷ ws) [] = []
 columnsOf (w ∷ ws) (n ∷ ns) = columnOf false w n ++ columnsOf ws ns
 
+-- a first number before the others, if all were in their columns
 abbrev pub withFirst : Number → Option (List ℕ) → Option (List ℕ)
 withFirst Bad rest = none
 withFirst (Is n) none = none
@@ -35,6 +36,7 @@ abbrev pub nth : ℕ → Option (List ℕ) → ℕ
 nth k none = 0
 nth k (some ns) = getD ns k 0
 
+-- whether a number was not in its column
 abbrev pub isNone : Option (List ℕ) → Bool
 isNone none = true
 isNone (some ns) = false

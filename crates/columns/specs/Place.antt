@@ -4,6 +4,7 @@ use mathlib.Core.Path.{_≡_}
 use mathlib.Core.List.{List, _++_}
 use lib.ListN.{length, take, drop}
 
+-- the buffer with the bytes in it
 unfoldable pub placed : ℕ → List ℕ → List ℕ → List ℕ
 placed at bytes buffer = take at buffer ++ (bytes ++ drop (at + length bytes) buffer)
 

@@ -22,6 +22,7 @@ abbrev pub placesUnused : (sources keys : List ℕ) → (count consumer : ℕ) �
 placesUnused sources keys count consumer =
     every (λ priority. ltb priority count || (eqb (placeAt sources consumer priority) 0 && eqb (placeAt keys consumer priority) 0)) 5
 
+-- the same of a registration's consumer, of which those after the last name none
 abbrev pub pairsUnused : Registration → ℕ → Bool
 pairsUnused r consumer = placesUnused (r .sources) (r .keys) (countAt r consumer) consumer
 
@@ -31,6 +32,7 @@ unusedZero r =
     zerosFrom 64 (points r) (r .codes) && zerosFrom 64 (points r) (r .statuses) && zerosFrom 64 (r .consumers) (r .counts)
     && every (pairsUnused r) 64
 
+-- one of the rules is broken, or an unused number is not 0
 unfoldable pub isDamaged : Registration → Bool
 isDamaged r =
     not (pointCountsRight (r .producers) (r .consumers)) || ltb 1 (r .iteration) || not (codesTrue r) || not (statusesRight r)

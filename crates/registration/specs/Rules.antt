@@ -9,12 +9,15 @@ use Rattle.registration.specs.declared.Registration.{Registration}
 use Rattle.registration.specs.Below.{every, sumBelow, differ}
 use Rattle.registration.specs.Code.{isCode}
 
+-- how many points the group has
 abbrev pub points : Registration → ℕ
 points r = r .producers + r .consumers
 
+-- the code of a point
 abbrev pub codeAt : Registration → ℕ → ℕ
 codeAt r point = getD (r .codes) point 0
 
+-- the status of a point
 abbrev pub statusAt : Registration → ℕ → ℕ
 statusAt r point = getD (r .statuses) point 0
 
@@ -68,9 +71,11 @@ abbrev pub placesRight : (sources keys : List ℕ) → (producers count consumer
 placesRight sources keys producers count consumer =
     countRight count && pairsRight producers count (placeAt sources consumer) (placeAt keys consumer)
 
+-- what a consumer names is right
 abbrev pub consumerRight : Registration → ℕ → Bool
 consumerRight r consumer = placesRight (r .sources) (r .keys) (r .producers) (countAt r consumer) consumer
 
+-- what every consumer names is right
 abbrev pub consumersRight : Registration → Bool
 consumersRight r = every (consumerRight r) (r .consumers)
 
@@ -82,5 +87,6 @@ keysOf sources keys producer = sumBelow (λ place. cond (eqb (getD sources place
 abbrev pub keysWithin : (sources keys : List ℕ) → ℕ → Bool
 keysWithin sources keys producers = every (λ producer. leb (keysOf sources keys producer) 10000) producers
 
+-- the keys of every producer of the group are right
 abbrev pub keysRight : Registration → Bool
 keysRight r = keysWithin (r .sources) (r .keys) (r .producers)
