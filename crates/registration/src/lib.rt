@@ -34,6 +34,8 @@ impl Registration {
 
     pub const STATUS_MOST: u8 = 3;
 
+    pub const ITERATION_MOST: u8 = 1;
+
     pub const KEY_MOST: u64 = 10000;
 
     // A registration of zeros, as refused calls return it.
@@ -61,7 +63,7 @@ impl Registration {
         if !point_counts_right(producers, consumers) {
             return true;
         }
-        if self.iteration > 1 {
+        if self.iteration > Registration::ITERATION_MOST {
             return true;
         }
         let points = producers + consumers;
@@ -262,7 +264,7 @@ fn sources_of(sources: &[u8; 320], consumer: usize) -> [u64; 5]
     ensures { λ r. ⌜ ((k : ℕ) → k < 5 → getD r k 0 ≡ placeAt (now (sources .entry)) consumer k) ⌝ }
 {
     let mut five = [0; 5];
-    for priority in 0..5 {
+    for priority in 0..Registration::SOURCES {
         five[priority] = byte_number(sources[5 * consumer + priority]);
     }
     five
@@ -274,7 +276,7 @@ fn keys_of(keys: &[u16; 320], consumer: usize) -> [u64; 5]
     ensures { λ r. ⌜ ((k : ℕ) → k < 5 → getD r k 0 ≡ placeAt (now (keys .entry)) consumer k) ⌝ }
 {
     let mut five = [0; 5];
-    for priority in 0..5 {
+    for priority in 0..Registration::SOURCES {
         five[priority] = key_number(keys[5 * consumer + priority]);
     }
     five
@@ -328,7 +330,7 @@ pub fn keys_right(sources: &[u8; 320], keys: &[u16; 320], producers: usize) -> b
 {
     // the sum of the keys with each number, which at the producers' numbers are theirs
     let mut sums = [0; 256];
-    for place in 0..320 {
+    for place in 0..Registration::PAIRS {
         let number = byte_number(sources[place]) as usize;
         let key = key_number(keys[place]);
         sums[number] = sums[number] + key;
@@ -345,7 +347,7 @@ pub fn keys_right(sources: &[u8; 320], keys: &[u16; 320], producers: usize) -> b
 fn codes_unused(codes: &[u64; 64], n: usize) -> bool
     ensures { λ r. ⌜ r ≡ zerosFrom 64 n (now (codes .entry)) ⌝ }
 {
-    for place in n..64 {
+    for place in n..Registration::POINTS {
         if codes[place] != 0 {
             return false;
         }
@@ -357,7 +359,7 @@ fn codes_unused(codes: &[u64; 64], n: usize) -> bool
 fn bytes_unused(bytes: &[u8; 64], n: usize) -> bool
     ensures { λ r. ⌜ r ≡ zerosFrom 64 n (now (bytes .entry)) ⌝ }
 {
-    for place in n..64 {
+    for place in n..Registration::POINTS {
         if bytes[place] != 0 {
             return false;
         }
@@ -370,7 +372,7 @@ fn places_unused(sources: &[u8; 320], keys: &[u16; 320], count: usize, consumer:
     requires { ⌜ consumer < 64 ⌝ }
     ensures { λ r. ⌜ r ≡ placesUnused (now (sources .entry)) (now (keys .entry)) count consumer ⌝ }
 {
-    for priority in count..5 {
+    for priority in count..Registration::SOURCES {
         let place = 5 * consumer + priority;
         if sources[place] != 0 {
             return false;
@@ -386,7 +388,7 @@ fn places_unused(sources: &[u8; 320], keys: &[u16; 320], count: usize, consumer:
 fn pairs_unused(counts: &[u8; 64], sources: &[u8; 320], keys: &[u16; 320]) -> bool
     ensures { λ r. ⌜ r ≡ every (λ consumer. placesUnused (now (sources .entry)) (now (keys .entry)) (getD (now (counts .entry)) consumer 0) consumer) 64 ⌝ }
 {
-    for consumer in 0..64 {
+    for consumer in 0..Registration::POINTS {
         let count = byte_number(counts[consumer]) as usize;
         if !places_unused(sources, keys, count, consumer) {
             return false;

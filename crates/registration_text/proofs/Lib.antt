@@ -9,13 +9,3 @@ pub mod Rights
 pub mod ReadBack
 pub mod WrittenAgain
 pub mod Theorems
-pub mod Pieces
-pub mod Sizes
-pub mod WholeText
-pub mod LineParts
-pub mod Answers
-pub mod Verdicts
-pub mod PairParts
-pub mod Placing
-pub mod Stages
-pub mod Whole

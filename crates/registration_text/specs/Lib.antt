@@ -1,5 +1,4 @@
 pub mod Lines
 pub mod Reader
 pub mod Writer
-pub mod Parts
 pub mod Theorems

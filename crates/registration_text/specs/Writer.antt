@@ -5,7 +5,7 @@ use mathlib.Core.List.{List, [], _∷_, _++_}
 use lib.ListN.{length, drop}
 use lib.Dec.{ltb}
 use Rattle.answers.specs.declared.Refusal.{Refusal}
-use Rattle.answers.specs.declared.Refusal.the-variants.{Damaged, ListTooShort}
+use Rattle.answers.specs.declared.Refusal.the-variants.{Damaged, TooShort}
 use Rattle.answers.specs.declared.Verdict.{Verdict}
 use Rattle.answers.specs.declared.Verdict.the-variants.{Accepted, Refused}
 use Rattle.answers.specs.Order.{refuse_if_else_}
@@ -32,7 +32,7 @@ textOf r = lineG r ++ (linesD r 0 (r .producers) ++ linesO r 0 (r .consumers))
 unfoldable pub verdictOfWriting : Registration → List ℕ → Verdict
 verdictOfWriting r out =
     refuse Damaged if isDamaged r else
-    refuse ListTooShort if ltb (length out) (length (textOf r)) else
+    refuse TooShort if ltb (length out) (length (textOf r)) else
     Accepted
 
 -- the answer: a verdict, and how many bytes were written, 0 where it is refused
