@@ -1,11 +1,11 @@
 -- Bytes put after bytes are both put together; a buffer keeps its length. Assumes nothing.
-use Prim.Native.Nat.{ℕ, zero, suc, _+_, _-_, _≤_, _<_}
-use mathlib.Core.Path.{_≡_, refl, sym, ap, _∙_}
-use mathlib.Core.List.{List, [], _∷_, _++_, append-assoc}
+use Prim.Native.Nat.{ℕ, _+_, _≤_}
+use mathlib.Core.Path.{_≡_, sym, ap, _∙_}
+use mathlib.Core.List.{List, _++_, append-assoc}
 use native.Mathlib.Omega.{arith}
 use native.Mathlib.Nat.{add-assoc}
 use lib.ListN.{length, take, drop, length-append, length-drop}
-use lib.Seq.{length-take-le, take-at, drop-at, drop-drop, take-append-le, drop-append-le}
+use lib.Seq.{length-take-le, take-at, drop-at, drop-drop}
 use Rattle.columns.specs.Place.{placed, Put}
 
 pub length-placed : (at : ℕ) (bytes buffer : List ℕ) → at + length bytes ≤ length buffer → length (placed at bytes buffer) ≡ length buffer

@@ -23,7 +23,7 @@ use Rattle.registration_reader.specs.declared.Pairs.{Pairs}
 use Rattle.registration_text.specs.Lines.{widthsOfPairs}
 use Rattle.registration_text.specs.Reader.{sourceIn, keyIn}
 use Rattle.registration_reader.specs.Parts.{five, pairsOf}
-use Rattle.registration_reader.proofs.LineParts.{column}
+use Rattle.lines.proofs.Parts.{column}
 
 -- numbers and keys in turn, put at the priorities from one on
 abbrev placed : (sources keys : List ℕ) → ℕ → List ℕ → Pairs

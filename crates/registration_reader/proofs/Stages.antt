@@ -13,10 +13,11 @@ use Rattle.answers.specs.declared.Verdict.the-variants.{Accepted, Refused}
 use Rattle.columns.specs.Fields.{nth}
 use Rattle.columns.specs.Line.{firstLine, afterLine}
 use Rattle.columns.proofs.Laws.{first-part, after-part, first-line-length}
+use Rattle.lines.specs.Lines.{lineIn}
 use Rattle.registration.specs.declared.Registration.{Registration}
 use Rattle.registration_text.specs.declared.Answer.{Answer}
 use Rattle.registration_text.specs.Lines.{letterD, widthsD}
-use Rattle.registration_text.specs.Reader.{Stage, going, unless, answered, lineIn, fixedIn, restIn, verdictD, verdictO, sourceIn, keyIn, withPoint, withCount, withConsumer, readD, readO}
+use Rattle.registration_text.specs.Reader.{Stage, going, unless, answered, fixedIn, restIn, verdictD, verdictO, sourceIn, keyIn, withPoint, withCount, withConsumer, readD, readO}
 use Rattle.registration_reader.specs.Parts.{Reached}
 use Rattle.registration_reader.proofs.Answers.{was-refused, was-accepted}
 use Rattle.registration_reader.proofs.Placing.{pairs-producers, pairs-consumers}

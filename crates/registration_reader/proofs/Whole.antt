@@ -14,6 +14,7 @@ use Rattle.answers.specs.declared.Verdict.the-variants.{Accepted, Refused}
 use Rattle.answers.proofs.Refusals.{passed}
 use Rattle.columns.specs.Fields.{nth, isNone}
 use Rattle.columns.specs.Line.{firstLine}
+use Rattle.lines.specs.Lines.{lineIn}
 use Rattle.registration.specs.declared.Registration.{Registration}
 use Rattle.registration.specs.Damage.{empty}
 use Rattle.registration.specs.Rules.{pointCountsRight}
@@ -21,7 +22,7 @@ use Rattle.registration.proofs.Damage.{point-bounds}
 use Rattle.registration_text.specs.declared.Answer.{Answer}
 use Rattle.registration_reader.specs.declared.Progress.{Progress}
 use Rattle.registration_text.specs.Lines.{letterG, widthsG}
-use Rattle.registration_text.specs.Reader.{Stage, stopped, going, unless, answered, lineIn, verdictG, verdictOfAll, withCounts, readG, readD, readO, readText}
+use Rattle.registration_text.specs.Reader.{Stage, stopped, going, unless, answered, verdictG, verdictOfAll, withCounts, readG, readD, readO, readText}
 use Rattle.registration_reader.specs.Parts.{Reached, groupAnswer}
 use Rattle.registration_reader.proofs.Answers.{was-refused, was-accepted}
 use Rattle.registration_reader.proofs.Stages.{line-part, rest-part}

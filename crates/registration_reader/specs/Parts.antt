@@ -1,29 +1,18 @@
 -- What the code's partial answers mean: the numbers of a line, and a text that has been read up to a place. Assumes nothing.
 use Prim.Native.Nat.{ℕ, _≤_}
 use mathlib.Core.Path.{_≡_}
-use mathlib.Core.Bool.{Bool, not}
+use mathlib.Core.Bool.{not}
 use mathlib.Core.List.{List, [], _∷_}
-use mathlib.Core.Option.{Option, none, some}
+use mathlib.Core.Option.{Option}
 use lib.ListN.{length, drop}
 use Rattle.columns.specs.Fields.{nth, isNone}
 use Rattle.registration.specs.declared.Registration.{Registration}
 use Rattle.registration_text.specs.declared.Answer.{Answer}
-use Rattle.registration_reader.specs.declared.Two.{Two}
-use Rattle.registration_reader.specs.declared.Two.the-variants.{Are as TwoAre, Bad as TwoBad}
-use Rattle.registration_reader.specs.declared.Three.{Three}
-use Rattle.registration_reader.specs.declared.Three.the-variants.{Are as ThreeAre, Bad as ThreeBad}
 use Rattle.registration_reader.specs.declared.Pairs.{Pairs}
 use Rattle.registration_reader.specs.declared.Progress.{Progress}
 use Rattle.registration_text.specs.Reader.{Stage, going, unless, sourceIn, keyIn, verdictG, verdictD, verdictO, withCounts, withPoint, withConsumer, answered}
 
-abbrev pub twoOf : Two → Option (List ℕ)
-twoOf (TwoAre a b) = some (a ∷ b ∷ [])
-twoOf TwoBad = none
-
-abbrev pub threeOf : Three → Option (List ℕ)
-threeOf (ThreeAre a b c) = some (a ∷ b ∷ c ∷ [])
-threeOf ThreeBad = none
-
+-- a function's values at the five priorities
 abbrev pub five : (ℕ → ℕ) → List ℕ
 five f = f 0 ∷ f 1 ∷ f 2 ∷ f 3 ∷ f 4 ∷ []
 

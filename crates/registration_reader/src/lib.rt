@@ -5,20 +5,8 @@ use answers::Verdict;
 use registration::Registration;
 use registration_text::Answer;
 
-mod lines;
+mod letters;
 mod reader;
-
-// The two numbers of a line.
-pub enum Two {
-    Are(u64, u64),
-    Bad,
-}
-
-// The three numbers of a line.
-pub enum Three {
-    Are(u64, u64, u64),
-    Bad,
-}
 
 // The producers' numbers and the keys of an O line by priority, zeros after them and where they are not in their columns.
 pub struct Pairs {
@@ -39,7 +27,7 @@ pub fn read(text: &[u8]) -> Answer
     ensures { λ r. ⌜ r ≡ readText (now (text .entry)) ⌝ }
 {
     let end = columns::line_end(text, 0);
-    let group = lines::read_group(&text[..end]);
+    let group = letters::read_group(&text[..end]);
     let verdict = group.verdict;
     if let Verdict::Refused(refusal) = verdict {
         return reader::refused(refusal);

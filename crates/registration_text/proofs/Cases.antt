@@ -1,6 +1,6 @@
 -- Texts and their answers, by one test that is computed over the rows of a table: case LIST and an example of each refusal. Assumes nothing.
 use Prim.Native.Nat.{ℕ}
-use Prim.Native.Char.{Char, code}
+use Prim.Native.Char.{code}
 use Prim.Native.String.{String, [] as end, _∷_ as _then_, _++_}
 use mathlib.Core.Path.{_≡_, refl}
 use mathlib.Core.Bool.{Bool, true, _&&_}
@@ -11,12 +11,13 @@ use Rattle.answers.specs.Numbers.{answerOf}
 use Rattle.columns.specs.Column.{columnOf, leadOf, valueFrom, sameBytes, numberOf}
 use Rattle.columns.specs.Fields.{numbersIn, total, columnsOf}
 use Rattle.columns.specs.Line.{firstLine, afterLine}
+use Rattle.lines.specs.Lines.{lineIn}
 use Rattle.registration.specs.Below.{every, differ, sumBelow}
 use Rattle.registration.specs.Code.{isCode, weighted}
 use Rattle.registration.specs.Rules.{pairsRight}
 use Rattle.registration.specs.Damage.{empty}
 use Rattle.registration_text.specs.Lines.{widthsOfPairs, pairsFrom}
-use Rattle.registration_text.specs.Reader.{readText, readG, readD, readO, lineIn, fixedIn, restIn, verdictG, verdictD, verdictO, verdictOfAll, withPoint, withCount, withPair, withPairs}
+use Rattle.registration_text.specs.Reader.{readText, readG, readD, readO, fixedIn, restIn, verdictG, verdictD, verdictO, verdictOfAll, withPoint, withCount, withPair, withPairs}
 use Rattle.registration_text.specs.Writer.{textOf, linesD, linesO}
 
 -- the bytes of a text

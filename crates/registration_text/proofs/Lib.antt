@@ -1,7 +1,7 @@
 pub mod Cases
 pub mod Fronts
 pub mod Named
-pub mod OneLine
+pub mod ConsumerLine
 pub mod Texts
 pub mod States
 pub mod Steps

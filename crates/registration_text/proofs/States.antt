@@ -7,7 +7,7 @@ use Rattle.registration.specs.declared.Registration.{Registration}
 use Rattle.registration.specs.Rules.{codeAt, statusAt, countAt, sourceAt, keyAt}
 use Rattle.registration_text.specs.Reader.{withPoint, withCount, withPair, withPairs}
 use Rattle.registration_text.proofs.Fronts.{front, front-next, clean-set, back-set, fills, fills-same, clean-fills, back-fills, fills-front}
-use Rattle.registration_text.proofs.OneLine.{Said}
+use Rattle.registration_text.proofs.ConsumerLine.{Said}
 
 -- the registration up to a point, a consumer and a place of a pair, and zeros from there on
 abbrev pub upTo : Registration → (point consumer place : ℕ) → Registration

@@ -17,16 +17,18 @@ use Rattle.answers.proofs.Refusals.{passed}
 use Rattle.columns.specs.Fields.{fitting, nth, isNone}
 use Rattle.columns.specs.Line.{firstLine, afterLine}
 use Rattle.columns.proofs.Same.{both}
+use Rattle.lines.specs.Lines.{lineOf, lineIn}
+use Rattle.lines.proofs.Laws.{begins-read, begins-written}
 use Rattle.registration.specs.declared.Registration.{Registration}
 use Rattle.registration.specs.Code.{isCode}
 use Rattle.registration.specs.Rules.{pointCountsRight, countRight, pairRight, pairsRight}
 use Rattle.registration.proofs.Below.{every-at}
 use Rattle.registration.proofs.Damage.{point-bounds}
 use Rattle.registration.proofs.Places.{pairs-same}
-use Rattle.registration_text.specs.Lines.{lineOf, lineG, letterG, letterD, widthsG, widthsD, widthsO, widthsOfPairs}
-use Rattle.registration_text.specs.Reader.{Stage, going, unless, lineIn, fixedIn, restIn, verdictG, verdictD, verdictO, sourceIn, keyIn, withCounts, withPoint, readG, readD, readO}
+use Rattle.registration_text.specs.Lines.{lineG, letterG, letterD, widthsG, widthsD, widthsO, widthsOfPairs}
+use Rattle.registration_text.specs.Reader.{Stage, going, unless, fixedIn, restIn, verdictG, verdictD, verdictO, sourceIn, keyIn, withCounts, withPoint, readG, readD, readO}
 use Rattle.registration_text.proofs.Named.{pairs-at, pairs-fit}
-use Rattle.registration_text.proofs.OneLine.{Said, fixedSaid, pairsSaid, lineSaid, saidBy, begins-read, begins-written, begins-consumer-read, begins-consumer-written}
+use Rattle.registration_text.proofs.ConsumerLine.{Said, fixedSaid, pairsSaid, lineSaid, saidBy, begins-consumer-read, begins-consumer-written}
 use Rattle.registration_text.proofs.States.{withOne, put-consumer, one-same}
 
 -- a reading that goes on has refused nothing

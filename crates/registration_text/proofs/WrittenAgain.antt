@@ -22,7 +22,7 @@ use Rattle.registration_text.specs.Reader.{Stage, going, stopped, withCo
 use Rattle.registration_text.specs.Writer.{linesD, linesO, textOf}
 use Rattle.registration_text.proofs.Fronts.{by-order, by-equal, front-none}
 use Rattle.registration_text.proofs.Named.{pairs-from-same}
-use Rattle.registration_text.proofs.OneLine.{Said, lineSaid}
+use Rattle.registration_text.proofs.ConsumerLine.{Said, lineSaid}
 use Rattle.registration_text.proofs.Texts.{text-none-D, text-none-O, text-D, text-O}
 use Rattle.registration_text.proofs.States.{upTo, upToConsumer, said, withOne, Put, clean-point, back-point, clean-one, back-one}
 use Rattle.registration_text.proofs.Steps.{PointGood, ConsumerGood, few-named, ReadG, read-G, read-D, read-O}

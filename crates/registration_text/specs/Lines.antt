@@ -1,13 +1,9 @@
 -- The lines of a registration: their letters, the widths of their columns, and the numbers in these. Assumes nothing.
 use Prim.Native.Nat.{ℕ, zero, suc, _+_}
 use mathlib.Core.List.{List, [], _∷_, _++_}
-use Rattle.columns.specs.Fields.{columnsOf}
+use Rattle.lines.specs.Lines.{lineOf}
 use Rattle.registration.specs.declared.Registration.{Registration}
 use Rattle.registration.specs.Rules.{codeAt, statusAt, countAt, sourceAt, keyAt}
-
--- a line: its letter, its numbers in columns of these widths, and LF
-abbrev pub lineOf : ℕ → List ℕ → List ℕ → List ℕ
-lineOf letter widths numbers = letter ∷ (columnsOf widths numbers ++ (10 ∷ []))
 
 -- the letters G, D and O
 abbrev pub letterG : ℕ

@@ -1,17 +1,18 @@
 -- Reading a registration's text: G, the D lines, the O lines in turn, then what concerns the whole. Each order of refusals is one chain. Assumes nothing.
 use Prim.Native.Nat.{ℕ, zero, suc, _+_, _*_}
-use mathlib.Core.Bool.{Bool, true, false, cond, not, _&&_}
-use mathlib.Core.List.{List, [], _∷_}
-use mathlib.Core.Option.{Option, none, some}
-use lib.ListN.{length, getD, set, drop, replicate}
+use mathlib.Core.Bool.{cond, not, _&&_}
+use mathlib.Core.List.{List}
+use mathlib.Core.Option.{Option, none}
+use lib.ListN.{length, getD, set, drop}
 use lib.Dec.{leb, ltb, eqb}
 use Rattle.answers.specs.declared.Refusal.{Refusal}
 use Rattle.answers.specs.declared.Refusal.the-variants.{NotInColumns, CodeFalse, CountOutside, CodeTwice, StatusOrIterationAbove, ProducerOrKeyWrong, KeysAbove}
 use Rattle.answers.specs.declared.Verdict.{Verdict}
 use Rattle.answers.specs.declared.Verdict.the-variants.{Accepted, Refused}
 use Rattle.answers.specs.Order.{refuse_if_else_}
-use Rattle.columns.specs.Fields.{total, numbersIn, nth, isNone}
+use Rattle.columns.specs.Fields.{numbersIn, nth, isNone}
 use Rattle.columns.specs.Line.{firstLine, afterLine}
+use Rattle.lines.specs.Lines.{lineIn}
 use Rattle.registration.specs.declared.Registration.{Registration}
 use Rattle.registration.specs.Code.{isCode}
 use Rattle.registration.specs.Rules.{pointCountsRight, countRight, pairsRight, codesDiffer, keysRight}
@@ -20,13 +21,6 @@ use Rattle.registration_text.specs.declared.Answer.{Answer}
 use Rattle.registration_text.specs.Lines.{letterG, letterD, letterO, widthsG, widthsD, widthsO, widthsOfPairs}
 
 -- ---- one line
-
--- the numbers of a line that has this letter, columns of these widths, LF, and nothing else
-unfoldable pub lineIn : ℕ → List ℕ → List ℕ → Option (List ℕ)
-lineIn letter widths line =
-    cond (eqb (length line) (total widths + 2) && eqb (getD line 0 0) letter && eqb (getD line (total widths + 1) 0) 10)
-    (numbersIn widths (drop 1 line))
-    none
 
 -- the numbers of an O line's fixed part, its first 24 bytes
 unfoldable pub fixedIn : List ℕ → Option (List ℕ)

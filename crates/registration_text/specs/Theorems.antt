@@ -1,12 +1,11 @@
 -- What registration text promises, as statements; `proofs/Theorems.antt` proves each. Assumes nothing.
 use Prim.Native.Nat.{ℕ}
 use mathlib.Core.Path.{_≡_}
-use mathlib.Core.Bool.{Bool, true, false}
+use mathlib.Core.Bool.{false}
 use mathlib.Core.List.{List}
 use Rattle.answers.specs.declared.Verdict.the-variants.{Accepted}
 use Rattle.registration.specs.declared.Registration.{Registration}
 use Rattle.registration.specs.Damage.{isDamaged, Sized}
-use Rattle.registration_text.specs.declared.Answer.{Answer}
 use Rattle.registration_text.specs.Reader.{readText}
 use Rattle.registration_text.specs.Writer.{textOf}
 

@@ -12,8 +12,8 @@ use Rattle.columns.specs.Column.{columnOf}
 use Rattle.columns.specs.Fields.{columnsOf}
 use Rattle.columns.specs.Place.{placed, Put}
 use Rattle.columns.proofs.Laws.{length-column, columnsOf-cons, columnsOf-nil, columns-append}
+use Rattle.lines.specs.Lines.{lineOf}
 use Rattle.columns.proofs.PlaceLaws.{put-then, put-length}
-use Rattle.registration_text.specs.Lines.{lineOf}
 
 -- ---- one line
 

@@ -8,10 +8,11 @@ use lib.ListN.{length, getD, length-append}
 use Rattle.columns.specs.Fields.{columnsOf, total}
 use Rattle.columns.specs.Place.{Put}
 use Rattle.columns.proofs.Laws.{columnsOf-nil, columns-append, length-columns}
+use Rattle.lines.specs.Lines.{lineOf}
 use Rattle.registration.specs.declared.Registration.{Registration}
 use Rattle.registration.specs.Below.{sumBelow}
 use Rattle.registration.specs.Rules.{countAt, sourceAt, keyAt}
-use Rattle.registration_text.specs.Lines.{lineOf, lineG, lineD, lineO, letterG, letterD, letterO, widthsG, widthsD, widthsO, widthsOfPairs, pairsFrom}
+use Rattle.registration_text.specs.Lines.{lineG, lineD, lineO, letterG, letterD, letterO, widthsG, widthsD, widthsO, widthsOfPairs, pairsFrom}
 use Rattle.registration_text.specs.Writer.{linesD, linesO, textOf}
 use Rattle.registration_text.proofs.Named.{total-pairs}
 use Rattle.registration_writer.proofs.Pieces.{joined, in-turn}

@@ -5,22 +5,22 @@ use answers::Verdict;
 use registration::Registration;
 use registration_text::Written;
 
-mod lines;
+mod letters;
 
 // Writes a registration's text to the front of a buffer.
 pub fn write(registration: Registration, out: &mut [u8]) -> Written
     ensures { λ r. ⌜ Wrote registration (now (out .entry)) (now (out .exit)) r ⌝ }
 {
     if registration.damaged() {
-        return lines::refused(Refusal::Damaged);
+        return letters::refused(Refusal::Damaged);
     }
-    let size = lines::size(registration);
+    let size = letters::size(registration);
     if out.len() < size {
-        return lines::refused(Refusal::TooShort);
+        return letters::refused(Refusal::TooShort);
     }
-    let at = lines::write_group(out, 0, registration);
-    let at = lines::write_producers(out, at, registration);
-    let at = lines::write_consumers(out, at, registration);
+    let at = letters::write_group(out, 0, registration);
+    let at = letters::write_producers(out, at, registration);
+    let at = letters::write_consumers(out, at, registration);
     Written {
         verdict: Verdict::Accepted,
         bytes: at,

@@ -2,9 +2,7 @@
 use borrow.Author.Needs.{needs}
 use native.Mathlib.Omega.{arith}
 use native.Mathlib.Nat.{add-sub-cancel-left}
-use Prim.Native.Nat.{_+_}
-use mathlib.Core.Path.{_≡_, sym}
-use mathlib.Core.Bool.{false}
+use mathlib.Core.Path.{_≡_}
 use lib.ListN.{length, take, drop, length-drop}
 use lib.Seq.{drop-drop, length-take-le}
 use Rattle.columns.specs.Place.{placed}
