@@ -4,3 +4,4 @@ pub mod Digits
 pub mod Keys
 pub mod Places
 pub mod Cases
+pub mod Bounds

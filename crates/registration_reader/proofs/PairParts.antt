@@ -1,13 +1,11 @@
 -- An O line's numbers and keys, put into their places one priority after the other. Assumes nothing.
 use Prim.Native.Nat.{ℕ, zero, suc, _+_, _-_, _≤_, _<_}
 use mathlib.Core.Path.{_≡_, refl, ap, _∙_}
-use mathlib.Core.Bool.{true, _&&_}
+use mathlib.Core.Bool.{true}
 use mathlib.Core.List.{List, [], _∷_}
 use mathlib.Core.Option.{Option, none, some}
 use native.Mathlib.Nat.{sub-zero}
 use native.Mathlib.Omega.{arith}
-use borrow.Author.Tests.{leb-true}
-use lib.Dec.{leb}
 use lib.ListN.{length, getD, take, drop, set, replicate}
 use lib.Seq.{set-out}
 use Rattle.columns.specs.declared.Number.{Number}
@@ -15,9 +13,8 @@ use Rattle.columns.specs.declared.Number.the-variants.{Is, Bad}
 use Rattle.columns.specs.Column.{numberOf}
 use Rattle.columns.specs.Fields.{withFirst, numbersIn}
 use Rattle.columns.proofs.Laws.{numbersIn-nil}
-use Rattle.registration.specs.Below.{differ}
-use Rattle.registration.specs.Rules.{pairRight, pairsRight}
-use Rattle.registration.proofs.Below.{and-left, and-right, every-at}
+use Rattle.registration.specs.Rules.{pairsRight}
+use Rattle.registration.proofs.Bounds.{pair-bounds}
 use Rattle.registration.proofs.Places.{pairs-same}
 use Rattle.registration_reader.specs.declared.Pairs.{Pairs}
 use Rattle.registration_text.specs.Lines.{widthsOfPairs}
@@ -141,11 +138,4 @@ module _ (pairs : Pairs) (rest : Option (List ℕ)) (is : pairs ≡ pairsOf rest
 -- right pairs fit the registration's places
 pub pairs-fit : (producers count : ℕ) (source key : ℕ → ℕ) → pairsRight producers count source key ≡ true → producers < 256
     → (k : ℕ) → k < count → (source k < 256) × (key k < 65536)
-unfolding pairsRight
-pairs-fit producers count source key t few k h =
-    let right = every-at (λ i. pairRight producers (source i) (key i)) count k (and-left _ (differ source count) t) h in
-    let three = and-left (leb 1 (source k) && leb (source k) producers && leb 1 (key k)) (leb (key k) 10000) right in
-    let two = and-left (leb 1 (source k) && leb (source k) producers) (leb 1 (key k)) three in
-    let small = leb-true (source k) producers (and-right (leb 1 (source k)) (leb (source k) producers) two) in
-    let low = leb-true (key k) 10000 (and-right (leb 1 (source k) && leb (source k) producers && leb 1 (key k)) (leb (key k) 10000) right) in
-    omega arith
+pairs-fit producers count source key t few k h = let bounds = pair-bounds producers count source key t k h in omega arith

@@ -10,6 +10,7 @@ use Rattle.answers.specs.Order.{refuse_if_else_}
 use Rattle.registration.specs.declared.Registration.{Registration}
 use Rattle.registration.specs.Rules.{codeAt, statusAt, countAt}
 use Rattle.registration.specs.Damage.{empty}
+use Rattle.registration.proofs.Bounds.{count-bounds}
 use Rattle.registration.proofs.Damage.{point-bounds}
 use Rattle.registration_text.specs.Lines.{lineG}
 use Rattle.registration_text.specs.Reader.{going, readG, readD, readO, readText, verdictOfAll}
@@ -17,7 +18,7 @@ use Rattle.registration_text.specs.Writer.{linesD, linesO, textOf}
 use Rattle.registration_text.proofs.Fronts.{front-none, front-zeros}
 use Rattle.registration_text.proofs.Texts.{text-none-D, text-none-O, text-D, text-O}
 use Rattle.registration_text.proofs.States.{upTo, upToConsumer, said, next-point, next-consumer}
-use Rattle.registration_text.proofs.Steps.{few-named, step-G, step-D, step-O}
+use Rattle.registration_text.proofs.Steps.{step-G, step-D, step-O}
 use Rattle.registration_text.proofs.Rights.{Right}
 
 none-D : (i : ℕ) (s : Registration) (text : List ℕ) → readD i 0 s text ≡ going s text
@@ -55,7 +56,7 @@ module _ (r : Registration) (right : Right r) where
   next-O : (c : ℕ) → c < r .consumers → upTo r (suc (r .producers + c)) (suc c) (5 * c + countAt r c) ≡ upToConsumer r (suc c)
   next-O c h =
       let n = countAt r c in
-      let five = few-named n (right .consumer c h .counted) in
+      let five = count-bounds n (right .consumer c h .counted) .1 in
       let p : suc (r .producers + c) ≡ r .producers + suc c = omega arith in
       let s = front-zeros 320 (5 * c + n) (5 * suc c) (r .sources) (omega arith) (λ i l m. zero-at c i h l m .0) in
       let k = front-zeros 320 (5 * c + n) (5 * suc c) (r .keys) (omega arith) (λ i l m. zero-at c i h l m .1) in

@@ -21,8 +21,8 @@ use Rattle.lines.specs.Lines.{lineOf, lineIn}
 use Rattle.lines.proofs.Laws.{begins-read, begins-written}
 use Rattle.registration.specs.declared.Registration.{Registration}
 use Rattle.registration.specs.Code.{isCode}
-use Rattle.registration.specs.Rules.{pointCountsRight, countRight, pairRight, pairsRight}
-use Rattle.registration.proofs.Below.{every-at}
+use Rattle.registration.specs.Rules.{pointCountsRight, countRight, pairsRight}
+use Rattle.registration.proofs.Bounds.{count-bounds, pair-bounds}
 use Rattle.registration.proofs.Damage.{point-bounds}
 use Rattle.registration.proofs.Places.{pairs-same}
 use Rattle.registration_text.specs.Lines.{lineG, letterG, letterD, widthsG, widthsD, widthsO, widthsOfPairs}
@@ -159,9 +159,6 @@ pub record ConsumerGood (producers : ℕ) (l : Said) : Type 0 where
   pub counted : countRight (l .count) ≡ true
   pub paired : pairsRight producers (l .count) (l .source) (l .key) ≡ true
 
-pub few-named : (count : ℕ) → countRight count ≡ true → count ≤ 5
-few-named count t = leb-true count 5 (both (leb 1 count) _ t .1)
-
 module _ (l : Said) where
   -- the numbers and keys in the columns are those of the line
   source-at : (k : ℕ) → k < l .count → sourceIn (some (pairsSaid l)) k ≡ l .source k
@@ -184,23 +181,13 @@ module _ (producers : ℕ) (l : Said) (good : ConsumerGood producers l) where
       rw (
         lt-ltb (l .code) 1000000000000000000 (small-code (l .code) (good .point .coded)),
         lt-ltb (l .status) 10 (omega (arith, good .point .stated)),
-        lt-ltb (l .count) 10 (omega (arith, few-named (l .count) (good .counted))),
+        lt-ltb (l .count) 10 (omega (arith, count-bounds (l .count) (good .counted))),
       )
 
-  small-pair : (k : ℕ) → pairRight producers (l .source k) (l .key k) ≡ true → (l .source k ≤ producers) × (l .key k ≤ 10000)
-  small-pair k t =
-      let a = both (leb 1 (l .source k) && leb (l .source k) producers && leb 1 (l .key k)) (leb (l .key k) 10000) t in
-      let b = both (leb 1 (l .source k) && leb (l .source k) producers) (leb 1 (l .key k)) (a .0) in
-      (leb-true (l .source k) producers (both (leb 1 (l .source k)) _ (b .0) .1), leb-true (l .key k) 10000 (a .1))
-
   fits-pairs : producers < 1000 → fitting (widthsOfPairs (l .count)) (pairsSaid l) ≡ true
-  unfolding pairsRight
   fits-pairs few =
       pairs-fit (l .source) (l .key) 0 (l .count)
-      (λ k h.
-      let t = every-at (λ p. pairRight producers (l .source p) (l .key p)) (l .count) k (both _ _ (good .paired) .0) h in
-      let small = small-pair k t in
-      rw zero-add (omega arith))
+      (λ k h. let small = pair-bounds producers (l .count) (l .source) (l .key) (good .paired) k h in rw zero-add (omega arith))
 
 accepted-O : (producers : ℕ) (fixed rest : Option (List ℕ)) → verdictO producers fixed rest ≡ Accepted
     → (isNone fixed ≡ false) × (isNone rest ≡ false) × ConsumerGood producers (saidBy fixed rest)

@@ -15,6 +15,7 @@ use Rattle.answers.proofs.Refusals.{passed}
 use Rattle.registration.specs.declared.Registration.{Registration}
 use Rattle.registration.specs.Rules.{points, codeAt, statusAt, sourceAt, keyAt, codesDiffer, keysRight}
 use Rattle.registration.specs.Damage.{empty}
+use Rattle.registration.proofs.Bounds.{count-bounds}
 use Rattle.registration.proofs.Damage.{point-bounds}
 use Rattle.registration.proofs.Places.{pairs-same}
 use Rattle.registration_text.specs.Lines.{lineG, lineO}
@@ -25,7 +26,7 @@ use Rattle.registration_text.proofs.Named.{pairs-from-same}
 use Rattle.registration_text.proofs.ConsumerLine.{Said, lineSaid}
 use Rattle.registration_text.proofs.Texts.{text-none-D, text-none-O, text-D, text-O}
 use Rattle.registration_text.proofs.States.{upTo, upToConsumer, said, withOne, Put, clean-point, back-point, clean-one, back-one}
-use Rattle.registration_text.proofs.Steps.{PointGood, ConsumerGood, few-named, ReadG, read-G, read-D, read-O}
+use Rattle.registration_text.proofs.Steps.{PointGood, ConsumerGood, ReadG, read-G, read-D, read-O}
 use Rattle.registration_text.proofs.Rights.{Unused, Right}
 
 -- ---- the D lines
@@ -80,7 +81,7 @@ clean-O c zero end s t text rest n clean e =
     rw (q, sym (end-O c s t text rest e .0)) clean
 clean-O c (suc left) end s t text rest n clean e =
     let d = read-O c left s text t rest e in
-    let few = few-named (d .says .count) (d .good .counted) in
+    let few = count-bounds (d .says .count) (d .good .counted) .1 in
     clean-O (suc c) left end (withOne s c (d .says)) t (d .rest) rest (omega arith) (clean-one s c (d .says) few clean) (d .next)
 
 -- a registration that has a line's numbers of a consumer says what the line says
@@ -123,7 +124,7 @@ module _ (r : Registration) (end : ℕ) (rest : List ℕ) (fronted : r ≡ upToC
       }
   says-O c (suc left) s text n most clean e =
       let d = read-O c left s text r rest e in
-      let few = few-named (d .says .count) (d .good .counted) in
+      let few = count-bounds (d .says .count) (d .good .counted) .1 in
       let later = says-O (suc c) left (withOne s c (d .says)) (d .rest) (omega arith) most (clean-one s c (d .says) few clean) (d .next) in
       let same : s .producers ≡ r .producers = λ i. later .start i .producers in
       let b = back-one s c (d .says) few clean r (omega arith) (later .start) in

@@ -4,9 +4,7 @@ use mathlib.Core.Path.{_≡_, refl, _∙_}
 use mathlib.Core.Bool.{true, false}
 use mathlib.Core.List.{List}
 use native.Mathlib.Nat.{zero-add}
-use lib.Dec.{leb}
 use lib.ListN.{length}
-use borrow.Author.Tests.{leb-true}
 use Rattle.answers.specs.declared.Refusal.the-variants.{Damaged, TooShort}
 use Rattle.answers.specs.declared.Verdict.{Verdict}
 use Rattle.answers.specs.declared.Verdict.the-variants.{Accepted, Refused}
@@ -15,7 +13,8 @@ use Rattle.columns.specs.Place.{placed, Put}
 use Rattle.registration.specs.declared.Registration.{Registration}
 use Rattle.registration.specs.Rules.{countAt, countRight, consumerRight}
 use Rattle.registration.specs.Damage.{isDamaged}
-use Rattle.registration.proofs.Below.{every-at, and-left, and-right}
+use Rattle.registration.proofs.Bounds.{count-bounds}
+use Rattle.registration.proofs.Below.{every-at, and-left}
 use Rattle.registration.proofs.Damage.{undamaged-parts, point-bounds}
 use Rattle.registration_text.specs.declared.Written.{Written}
 use Rattle.registration_text.specs.Lines.{lineG}
@@ -31,7 +30,7 @@ module _ (r : Registration) (undamaged : isDamaged r ≡ false) where
   few-sources consumer h =
       let count = countAt r consumer in
       let right = every-at (consumerRight r) (r .consumers) consumer (undamaged-parts r undamaged .consumers) h in
-      leb-true count 5 (and-right (leb 1 count) (leb count 5) (and-left (countRight count) _ right))
+      count-bounds count (and-left (countRight count) _ right) .1
 
 module _ (r : Registration) where
   -- where the G line and the D lines end
