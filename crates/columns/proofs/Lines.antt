@@ -1,4 +1,4 @@
--- The lines of a text: the first one byte by byte, what joins to the text, and a line of columns read back. Assumes nothing.
+-- The lines of a text: the first one byte by byte, what joins to the text, and bytes without an LF. Assumes nothing.
 use Prim.Native.Nat.{ℕ, zero, suc, _+_, _/_, _%_, _≤_, _<_}
 use mathlib.Core.Path.{_≡_, refl, sym, ap, _∙_}
 use mathlib.Core.Bool.{Bool, true, false, cond, not, _&&_}
@@ -12,7 +12,7 @@ use lib.Seq.{drop-cons, drop-length, take-append-seam, drop-append-seam}
 use Rattle.columns.specs.Column.{byteBefore, leadOf, columnOf}
 use Rattle.columns.specs.Fields.{columnsOf}
 use Rattle.columns.specs.Line.{firstLine, afterLine}
-use Rattle.columns.specs.Laws.{LinesJoin, LineReadBack}
+use Rattle.columns.specs.Laws.{LinesJoin}
 use Rattle.columns.proofs.Clauses.{firstLine-cons}
 
 module _ (text : List ℕ) (i : ℕ) where
@@ -82,11 +82,6 @@ lines-join (byte ∷ bytes) = by-test (eqb byte 10) (lines-join bytes)
     by-test : (t : Bool) → firstLine bytes ++ afterLine bytes ≡ bytes → (byte ∷ cond t [] (firstLine bytes)) ++ cond t bytes (afterLine bytes) ≡ byte ∷ bytes
     by-test true e = refl
     by-test false e = rw e
-
-pub line-read-back : LineReadBack
-line-read-back letter widths numbers rest h =
-    let p : Plain (letter ∷ columnsOf widths numbers) = (h, plain-columns widths numbers) in
-    (first-plain (letter ∷ columnsOf widths numbers) rest p, after-plain (letter ∷ columnsOf widths numbers) rest p)
 
 -- a text's first line is its first part, and the rest follows
 pub first-part : (text : List ℕ) → take (length (firstLine text)) text ≡ firstLine text

@@ -2,7 +2,7 @@
 use Prim.Native.Nat.{ℕ, _-_, _^_, _≤_, _<_}
 use mathlib.Core.Path.{_≡_}
 use mathlib.Core.Bool.{true, false, cond}
-use mathlib.Core.List.{List, [], _∷_, _++_}
+use mathlib.Core.List.{List, _++_}
 use mathlib.Core.Option.{some}
 use lib.IntN.{ℤ, natAbs}
 use lib.ListN.{length, take}
@@ -51,10 +51,3 @@ FieldsWrittenAgain =
 -- a text is its first line and what follows
 abbrev pub LinesJoin : Type 0
 LinesJoin = (text : List ℕ) → firstLine text ++ afterLine text ≡ text
-
--- what is written as a line, a letter, columns and LF, is the first line of the text that begins with it
-abbrev pub LineReadBack : Type 0
-LineReadBack =
-    (letter : ℕ) (widths numbers rest : List ℕ) → (letter ≡ 10 → ⊥)
-    → (firstLine (letter ∷ (columnsOf widths numbers ++ (10 ∷ rest))) ≡ letter ∷ (columnsOf widths numbers ++ (10 ∷ [])))
-    × (afterLine (letter ∷ (columnsOf widths numbers ++ (10 ∷ rest))) ≡ rest)

@@ -12,19 +12,18 @@ use lib.ListN.{length, getD, take, drop, length-append, drop-of-length-le}
 use lib.Seq.{getD-at, split-at}
 use Rattle.columns.specs.Fields.{total, columnsOf, numbersIn, fitting, nth, isNone}
 use Rattle.columns.specs.Line.{firstLine, afterLine}
-use Rattle.columns.proofs.Laws.{fields-read-back, fields-written-again, line-read-back as columns-read-back, lines-join, fitting-length, length-columns}
+use Rattle.columns.proofs.Laws.{plain-columns, first-plain, after-plain, fields-read-back, fields-written-again, lines-join, fitting-length, length-columns}
 use Rattle.columns.proofs.Same.{both}
 use Rattle.lines.specs.Lines.{lineOf, lineIn}
 use Rattle.lines.specs.Laws.{LineReadBack, LineWrittenAgain, LineFirst}
 
-together : (letter : ℕ) (widths numbers rest : List ℕ) → lineOf letter widths numbers ++ rest ≡ letter ∷ (columnsOf widths numbers ++ (10 ∷ rest))
-together letter widths numbers rest = ap (λ (bytes : List ℕ). letter ∷ bytes) (append-assoc (columnsOf widths numbers) (10 ∷ []) rest)
-
 pub line-first : LineFirst
-line-first letter widths numbers rest plain = (
-  ap firstLine (together letter widths numbers rest) ∙ columns-read-back letter widths numbers rest plain .0,
-  ap afterLine (together letter widths numbers rest) ∙ columns-read-back letter widths numbers rest plain .1,
-)
+line-first letter widths numbers rest other =
+    let bytes = letter ∷ columnsOf widths numbers in
+    let whole : lineOf letter widths numbers ++ rest ≡ bytes ++ (10 ∷ rest) = append-assoc bytes (10 ∷ []) rest in (
+      ap firstLine whole ∙ first-plain bytes rest (other, plain-columns widths numbers),
+      ap afterLine whole ∙ after-plain bytes rest (other, plain-columns widths numbers),
+    )
 
 pub line-read-back : LineReadBack
 unfolding lineIn

@@ -5,13 +5,15 @@ use Rattle.lines.specs.Lines.{lineOf}
 use Rattle.registration.specs.declared.Registration.{Registration}
 use Rattle.registration.specs.Rules.{codeAt, statusAt, countAt, sourceAt, keyAt}
 
--- the letters G, D and O
+-- the letter G
 abbrev pub letterG : ℕ
 letterG = 71
 
+-- the letter D
 abbrev pub letterD : ℕ
 letterD = 68
 
+-- the letter O
 abbrev pub letterO : ℕ
 letterO = 79
 

@@ -49,10 +49,11 @@ verdictD numbers =
     refuse CodeFalse if not (isCode (nth 0 numbers)) else
     Accepted
 
--- a producer's number and key on an O line, by priority
+-- a producer's number on an O line, by priority
 abbrev pub sourceIn : Option (List ℕ) → ℕ → ℕ
 sourceIn rest priority = nth (2 * priority) rest
 
+-- a key on an O line, by priority
 abbrev pub keyIn : Option (List ℕ) → ℕ → ℕ
 keyIn rest priority = nth (2 * priority + 1) rest
 
@@ -144,10 +145,12 @@ pub data Stage : Type 0 where
   stopped : Refusal → Stage
   going : Registration → List ℕ → Stage
 
+-- a refused line stops the reading
 abbrev pub unless : Verdict → Stage → Stage
 unless Accepted stage = stage
 unless (Refused refusal) stage = stopped refusal
 
+-- the next lines are read where the reading was not stopped
 abbrev pub thenRead : Stage → (Registration → List ℕ → Stage) → Stage
 thenRead (stopped refusal) next = stopped refusal
 thenRead (going r text) next = next r text
@@ -186,6 +189,7 @@ abbrev pub answered : Verdict → Registration → Answer
 answered Accepted r = record { verdict = Accepted; registration = r }
 answered (Refused refusal) r = record { verdict = Refused refusal; registration = empty }
 
+-- the answer once the reading has stopped or all lines were read
 abbrev pub closing : Stage → Answer
 closing (stopped refusal) = answered (Refused refusal) empty
 closing (going r text) = answered (verdictOfAll r text) r
