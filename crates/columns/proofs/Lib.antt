@@ -9,4 +9,3 @@ pub mod Judged
 pub mod Lists
 pub mod Lines
 pub mod Laws
-pub mod PlaceLaws

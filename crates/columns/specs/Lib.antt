@@ -1,5 +1,4 @@
 pub mod Column
 pub mod Fields
 pub mod Line
-pub mod Place
 pub mod Laws

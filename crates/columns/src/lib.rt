@@ -8,7 +8,7 @@ ghost use lib.IntN.{natAbs};
 ghost use lib.ListN.{length, getD, drop};
 ghost use Rattle.columns.specs.Column.{byteBefore, columnOf, signedColumnOf, digitOf, valueFrom, sameBytes, hasMinus, numberOf, signedOf};
 ghost use Rattle.columns.specs.Line.{firstLine};
-ghost use Rattle.columns.specs.Place.{Put};
+ghost use Rattle.lists.specs.Place.{Put};
 
 // What stands in a column of a number.
 pub enum Number {

@@ -9,8 +9,8 @@ use lib.Dec.{leb, eqb}
 use lib.ListN.{length, getD, set, replicate, length-set, getD-replicate}
 use lib.Seq.{getD-set-same, getD-set-other}
 use borrow.Author.Tests.{le-leb, lt-leb, eq-eqb, ne-eqb}
-use Rattle.registration.specs.Below.{sumBelow}
-use Rattle.registration.proofs.Below.{sum-none, sum-next}
+use Rattle.lists.specs.Below.{sumBelow}
+use Rattle.lists.proofs.Below.{sum-none, sum-next}
 
 module _ (sources keys : List ℕ) where
   -- the key at a place that has this number

@@ -4,7 +4,7 @@ ghost use mathlib.Core.Bool.{not, _&&_};
 ghost use Prim.Native.Nat.{ℕ, _≤_, _<_};
 ghost use lib.ListN.{length, getD};
 ghost use lib.Dec.{leb, eqb};
-ghost use Rattle.registration.specs.Below.{every, differ};
+ghost use Rattle.lists.specs.Below.{every, differ};
 ghost use Rattle.registration.specs.Code.{weighted, isCode};
 ghost use Rattle.registration.specs.Rules.{pointCountsRight, pairRight, pairsRight, placeAt, placesRight, keysWithin};
 ghost use Rattle.registration.specs.Damage.{zerosFrom, placesUnused, isDamaged, soundness, empty};

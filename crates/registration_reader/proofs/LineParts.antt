@@ -9,7 +9,7 @@ use lib.Dec.{leb, eqb}
 use borrow.Author.Tests.{eq-eqb, ne-eqb, le-leb, lt-leb}
 use Rattle.columns.specs.Fields.{numbersIn}
 use Rattle.lines.proofs.Parts.{tail-part}
-use Rattle.registration.proofs.Below.{and-late}
+use Rattle.lists.proofs.Below.{and-late}
 use Rattle.registration_text.specs.Lines.{letterO, widthsO, widthsOfPairs}
 use Rattle.registration_text.specs.Reader.{fixedIn, restIn}
 

@@ -14,7 +14,7 @@ use Rattle.columns.specs.Fields.{isNone}
 use Rattle.registration.specs.declared.Registration.{Registration}
 use Rattle.registration.specs.Code.{isCode}
 use Rattle.registration.specs.Rules.{pointCountsRight, countRight, pairsRight, codesDiffer, keysRight}
-use Rattle.registration.proofs.Below.{and-both, and-late}
+use Rattle.lists.proofs.Below.{and-both, and-late}
 use Rattle.registration_text.specs.Reader.{verdictG, verdictD, verdictO, verdictOfAll, sourceIn, keyIn}
 
 -- ---- G

@@ -12,7 +12,7 @@ use Rattle.columns.specs.Column.{columnOf, leadOf, valueFrom, sameBytes, number
 use Rattle.columns.specs.Fields.{numbersIn, total, columnsOf}
 use Rattle.columns.specs.Line.{firstLine, afterLine}
 use Rattle.lines.specs.Lines.{lineIn}
-use Rattle.registration.specs.Below.{every, differ, sumBelow}
+use Rattle.lists.specs.Below.{every, differ, sumBelow}
 use Rattle.registration.specs.Code.{isCode, weighted}
 use Rattle.registration.specs.Rules.{pairsRight}
 use Rattle.registration.specs.Damage.{empty}

@@ -10,11 +10,11 @@ use lib.Dec.{leb, ltb, eqb}
 use lib.ListN.{getD}
 use Rattle.columns.proofs.Same.{both}
 use Rattle.registration.specs.declared.Registration.{Registration}
-use Rattle.registration.specs.Below.{every}
+use Rattle.lists.specs.Below.{every}
 use Rattle.registration.specs.Code.{isCode}
 use Rattle.registration.specs.Rules.{points, codeAt, statusAt, countAt, sourceAt, keyAt, countRight, codesDiffer, consumerRight, keysRight}
 use Rattle.registration.specs.Damage.{zerosFrom, pairsUnused, isDamaged, Sized}
-use Rattle.registration.proofs.Below.{every-at, every-all}
+use Rattle.lists.proofs.Below.{every-at, every-all}
 use Rattle.registration.proofs.Damage.{Undamaged, undamaged-parts, parts-undamaged, point-bounds}
 use Rattle.registration_text.proofs.Fronts.{by-order, front-self, clean-zero}
 use Rattle.registration_text.proofs.States.{upToConsumer, said}

@@ -1,3 +1,3 @@
-pub mod Pieces
+pub mod LineParts
 pub mod Sizes
 pub mod WholeText

@@ -2,20 +2,22 @@
 use Prim.Native.Nat.{ℕ, zero, suc, _+_, _*_}
 use mathlib.Core.Path.{_≡_, refl, _∙_}
 use mathlib.Core.List.{List, [], _∷_, _++_}
-use native.Mathlib.Nat.{add-assoc, mul-zero, mul-suc}
+use native.Mathlib.Nat.{add-assoc}
 use native.Mathlib.Omega.{arith}
 use lib.ListN.{length, getD, length-append}
 use Rattle.columns.specs.Fields.{columnsOf, total}
-use Rattle.columns.specs.Place.{Put}
+use Rattle.lists.specs.Place.{Put}
 use Rattle.columns.proofs.Laws.{columnsOf-nil, columns-append, length-columns}
 use Rattle.lines.specs.Lines.{lineOf}
 use Rattle.registration.specs.declared.Registration.{Registration}
-use Rattle.registration.specs.Below.{sumBelow}
+use Rattle.lists.specs.Below.{sumBelow}
 use Rattle.registration.specs.Rules.{countAt, sourceAt, keyAt}
 use Rattle.registration_text.specs.Lines.{lineG, lineD, lineO, letterG, letterD, letterO, widthsG, widthsD, widthsO, widthsOfPairs, pairsFrom}
 use Rattle.registration_text.specs.Writer.{linesD, linesO, textOf}
 use Rattle.registration_text.proofs.Named.{total-pairs}
-use Rattle.registration_writer.proofs.Pieces.{joined, in-turn}
+use Rattle.lists.specs.Tables.{joined}
+use Rattle.lists.proofs.TableLaws.{length-joined, length-even}
+use Rattle.lists.proofs.Pieces.{in-turn}
 
 -- ---- the lines as pieces
 
@@ -39,16 +41,6 @@ pairs-joined source key n =
     (λ i m. columns-append (4 ∷ 6 ∷ []) (source i ∷ key i ∷ []) _ _ refl) n
 
 -- ---- lengths
-
-length-joined : (piece : ℕ → List ℕ) (size : ℕ → ℕ) (n : ℕ) → ((i : ℕ) → length (piece i) ≡ size i) → length (joined piece n) ≡ sumBelow size n
-unfolding joined sumBelow
-length-joined piece size zero each = refl
-length-joined piece size (suc n) each = rw (length-append, length-joined piece size n each, each n)
-
-length-even : (piece : ℕ → List ℕ) (size n : ℕ) → ((i : ℕ) → length (piece i) ≡ size) → length (joined piece n) ≡ size * n
-unfolding joined
-length-even piece size zero each = rw mul-zero
-length-even piece size (suc n) each = rw (length-append, length-even piece size n each, each n, mul-suc)
 
 pub length-line : (letter : ℕ) (ws ns : List ℕ) → length ws ≡ length ns → length (lineOf letter ws ns) ≡ total ws + 2
 length-line letter ws ns e = rw (length-append, length-columns ws ns e) (omega arith)

@@ -9,17 +9,17 @@ use Rattle.answers.specs.declared.Refusal.the-variants.{Damaged, TooShort}
 use Rattle.answers.specs.declared.Verdict.{Verdict}
 use Rattle.answers.specs.declared.Verdict.the-variants.{Accepted, Refused}
 use Rattle.answers.proofs.Refusals.{refusals}
-use Rattle.columns.specs.Place.{placed, Put}
+use Rattle.lists.specs.Place.{placed, Put}
 use Rattle.registration.specs.declared.Registration.{Registration}
 use Rattle.registration.specs.Rules.{countAt, countRight, consumerRight}
 use Rattle.registration.specs.Damage.{isDamaged}
 use Rattle.registration.proofs.Bounds.{count-bounds}
-use Rattle.registration.proofs.Below.{every-at, and-left}
+use Rattle.lists.proofs.Below.{every-at, and-left}
 use Rattle.registration.proofs.Damage.{undamaged-parts, point-bounds}
 use Rattle.registration_text.specs.declared.Written.{Written}
 use Rattle.registration_text.specs.Lines.{lineG}
 use Rattle.registration_text.specs.Writer.{linesD, linesO, textOf, verdictOfWriting, writtenIf, bufferAfter, Wrote}
-use Rattle.registration_writer.proofs.Pieces.{put-on}
+use Rattle.lists.proofs.Pieces.{put-on}
 use Rattle.registration_writer.proofs.Sizes.{lines-D, length-G, length-lines-D}
 
 module _ (r : Registration) (undamaged : isDamaged r ≡ false) where

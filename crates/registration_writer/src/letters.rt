@@ -5,7 +5,7 @@ ghost use Prim.Native.Nat.{ℕ, _+_, _*_, _≤_, _<_};
 ghost use lib.ListN.{length};
 ghost use Rattle.answers.specs.declared.Verdict.the-variants.{Refused as RefusedFor};
 ghost use Rattle.columns.specs.Fields.{columnsOf};
-ghost use Rattle.columns.specs.Place.{Put};
+ghost use Rattle.lists.specs.Place.{Put};
 ghost use Rattle.lines.specs.Lines.{lineOf};
 ghost use Rattle.registration.specs.Rules.{placeAt, countAt};
 ghost use Rattle.registration_text.specs.Lines.{lineG, letterD, letterO, widthsD, widthsO, widthsOfPairs, pairsFrom};

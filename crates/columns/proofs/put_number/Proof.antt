@@ -5,7 +5,7 @@ use native.Mathlib.Nat.{add-sub-cancel-left}
 use mathlib.Core.Path.{_≡_}
 use lib.ListN.{length, take, drop, length-drop}
 use lib.Seq.{drop-drop, length-take-le}
-use Rattle.columns.specs.Place.{placed}
+use Rattle.lists.specs.Place.{placed}
 use Rattle.columns.proofs.Fill.{length-column}
 use Rattle.columns.proofs.put_number.Statement.{statement}
 use Rattle.columns.proofs.put_number.Tie as tie

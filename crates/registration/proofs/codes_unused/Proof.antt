@@ -5,8 +5,8 @@ use mathlib.Core.Bool.{true, _||_}
 use lib.Dec.{ltb, eqb}
 use lib.ListN.{getD}
 use borrow.Author.Tests.{eq-eqb, ne-eqb}
-use Rattle.registration.specs.Below.{every}
-use Rattle.registration.proofs.Below.{every-done, from-begin, from-stop, from-next}
+use Rattle.lists.specs.Below.{every}
+use Rattle.lists.proofs.Below.{every-done, from-begin, from-stop, from-next}
 use borrow.Author.Needs.{needs}
 use native.Mathlib.Omega.{arith}
 use Rattle.registration.proofs.codes_unused.Statement.{statement}

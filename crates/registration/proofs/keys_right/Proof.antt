@@ -3,8 +3,8 @@ use Prim.Native.Nat.{_+_, _-_, _≤_}
 use mathlib.Core.Path.{_≡_, subst}
 use mathlib.Core.Bool.{true}
 use lib.Dec.{leb}
-use Rattle.registration.specs.Below.{every, sumBelow}
-use Rattle.registration.proofs.Below.{every-none, every-next, every-stop, every-done}
+use Rattle.lists.specs.Below.{every, sumBelow}
+use Rattle.lists.proofs.Below.{every-none, every-next, every-stop, every-done}
 use Rattle.registration.proofs.Keys.{Summed, summed-none, summed-turn, keyFor, keys-above, keys-within}
 use borrow.Author.Needs.{needs}
 use native.Mathlib.Omega.{arith}

@@ -4,9 +4,9 @@ use mathlib.Core.Path.{_≡_, sym, _∙_}
 use mathlib.Core.Bool.{true}
 use lib.ListN.{getD}
 use borrow.Author.Tests.{not-true, not-false}
-use Rattle.registration.specs.Below.{every}
+use Rattle.lists.specs.Below.{every}
 use Rattle.registration.specs.Damage.{placesUnused}
-use Rattle.registration.proofs.Below.{every-none, every-next, every-stop, every-done}
+use Rattle.lists.proofs.Below.{every-none, every-next, every-stop, every-done}
 use borrow.Author.Needs.{needs}
 use native.Mathlib.Omega.{arith}
 use Rattle.registration.proofs.pairs_unused.Statement.{statement}

@@ -4,9 +4,9 @@ use mathlib.Core.Path.{_≡_}
 use mathlib.Core.Bool.{true, _&&_, _||_}
 use lib.Dec.{ltb, eqb}
 use borrow.Author.Tests.{eq-eqb, ne-eqb}
-use Rattle.registration.specs.Below.{every}
+use Rattle.lists.specs.Below.{every}
 use Rattle.registration.specs.Rules.{placeAt}
-use Rattle.registration.proofs.Below.{every-done, from-begin, from-stop, from-next, and-both}
+use Rattle.lists.proofs.Below.{every-done, from-begin, from-stop, from-next, and-both}
 use borrow.Author.Needs.{needs}
 use native.Mathlib.Omega.{arith}
 use Rattle.registration.proofs.places_unused.Statement.{statement}

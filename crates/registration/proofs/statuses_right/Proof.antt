@@ -5,8 +5,8 @@ use mathlib.Core.Bool.{true}
 use lib.Dec.{leb}
 use lib.ListN.{getD}
 use borrow.Author.Tests.{le-leb, lt-leb}
-use Rattle.registration.specs.Below.{every}
-use Rattle.registration.proofs.Below.{every-none, every-next, every-stop, every-done}
+use Rattle.lists.specs.Below.{every}
+use Rattle.lists.proofs.Below.{every-none, every-next, every-stop, every-done}
 use borrow.Author.Needs.{needs}
 use native.Mathlib.Omega.{arith}
 use Rattle.registration.proofs.statuses_right.Statement.{statement}

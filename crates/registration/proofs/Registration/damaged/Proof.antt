@@ -3,7 +3,7 @@ use Prim.Native.Nat.{_+_, _≤_}
 use mathlib.Core.Path.{_≡_, sym, _∙_}
 use lib.ListN.{length}
 use borrow.Author.Tests.{not-true, not-false}
-use Rattle.registration.specs.Below.{differ}
+use Rattle.lists.specs.Below.{differ}
 use Rattle.registration.proofs.Damage.{parts-undamaged, damaged-by, clash, point-bounds}
 use borrow.Author.Needs.{needs}
 use native.Mathlib.Omega.{arith}

@@ -7,8 +7,8 @@ use mathlib.Core.List.{List}
 use mir.Syntax.{w8}
 use mir.Val.{Fits}
 use lib.ListN.{getD}
-use Rattle.registration.specs.Below.{sumBelow}
-use Rattle.registration.proofs.Below.{sum-none, sum-next, sum-bound}
+use Rattle.lists.specs.Below.{sumBelow}
+use Rattle.lists.proofs.Below.{sum-none, sum-next, sum-bound}
 use Rattle.registration_writer.proofs.Sizes.{lengthO, length-text}
 use Rattle.registration_writer.proofs.letters.size.Statement.{statement}
 use Rattle.registration_writer.proofs.letters.size.Tie as tie

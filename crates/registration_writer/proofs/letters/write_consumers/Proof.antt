@@ -4,7 +4,7 @@ use native.Mathlib.Omega.{arith}
 use Prim.Native.Nat.{_-_}
 use Rattle.registration.specs.declared.Registration.{Registration}
 use Rattle.registration_text.specs.Lines.{lineO}
-use Rattle.registration_writer.proofs.Pieces.{Pieces, no-pieces, next-fits, one-more, all-put}
+use Rattle.lists.proofs.Pieces.{Pieces, no-pieces, next-fits, one-more, all-put}
 use Rattle.registration_writer.proofs.Sizes.{lines-O, length-O}
 use Rattle.registration_writer.proofs.letters.write_consumers.Statement.{statement}
 use Rattle.registration_writer.proofs.letters.write_consumers.Tie as tie

@@ -1,7 +1,8 @@
 -- `registration_writer::letters::write_fixed` meets its contract: the letter and three columns are put one after the other. Assumes nothing.
 use native.Mathlib.Omega.{arith}
 use borrow.Author.Needs.{needs}
-use Rattle.registration_writer.proofs.Pieces.{column-end, put-on, field, fields}
+use Rattle.lists.proofs.Pieces.{put-on}
+use Rattle.registration_writer.proofs.LineParts.{column-end, field, fields}
 use Rattle.registration_writer.proofs.letters.write_fixed.Statement.{statement}
 use Rattle.registration_writer.proofs.letters.write_fixed.Tie as tie
 

@@ -2,7 +2,7 @@
 use borrow.Author.Needs.{needs}
 use Prim.Native.Nat.{_-_}
 use Rattle.registration.specs.Rules.{placeAt}
-use Rattle.registration_writer.proofs.Pieces.{Pieces, no-pieces, next-fits, one-more, all-put}
+use Rattle.lists.proofs.Pieces.{Pieces, no-pieces, next-fits, one-more, all-put}
 use Rattle.registration_writer.proofs.Sizes.{pairColumns, pairs-joined, length-pair, length-pairs}
 use Rattle.registration_writer.proofs.letters.write_pairs.Statement.{statement}
 use Rattle.registration_writer.proofs.letters.write_pairs.Tie as tie

@@ -1,7 +1,7 @@
 -- `registration_writer::letters::write_producer` meets its contract: the letter, two columns and LF are put one after the other. Assumes nothing.
 use native.Mathlib.Omega.{arith}
 use borrow.Author.Needs.{needs}
-use Rattle.registration_writer.proofs.Pieces.{column-end, field, fields, line}
+use Rattle.registration_writer.proofs.LineParts.{column-end, field, fields, line}
 use Rattle.registration_writer.proofs.letters.write_producer.Statement.{statement}
 use Rattle.registration_writer.proofs.letters.write_producer.Tie as tie
 

@@ -4,7 +4,7 @@ use Prim.Native.Nat.{_-_}
 use mathlib.Core.List.{[]}
 use Rattle.registration.specs.declared.Registration.{Registration}
 use Rattle.registration_text.specs.Lines.{lineD}
-use Rattle.registration_writer.proofs.Pieces.{Pieces, no-pieces, next-fits, one-more, all-put}
+use Rattle.lists.proofs.Pieces.{Pieces, no-pieces, next-fits, one-more, all-put}
 use Rattle.registration_writer.proofs.Sizes.{lines-D, length-D, length-lines-D}
 use Rattle.registration_writer.proofs.letters.write_producers.Statement.{statement}
 use Rattle.registration_writer.proofs.letters.write_producers.Tie as tie

@@ -1,12 +1,18 @@
--- Bytes put after bytes are both put together; a buffer keeps its length. Assumes nothing.
-use Prim.Native.Nat.{ℕ, _+_, _≤_}
-use mathlib.Core.Path.{_≡_, sym, ap, _∙_}
-use mathlib.Core.List.{List, _++_, append-assoc}
+-- One number stored is put; what is put after what was put before is put together with it; a list keeps its length. Assumes nothing.
+use Prim.Native.Nat.{ℕ, _+_, _≤_, _<_}
+use mathlib.Core.Path.{_≡_, refl, sym, ap, _∙_}
+use mathlib.Core.List.{List, [], _∷_, _++_, append-assoc}
 use native.Mathlib.Omega.{arith}
 use native.Mathlib.Nat.{add-assoc}
-use lib.ListN.{length, take, drop, length-append, length-drop}
-use lib.Seq.{length-take-le, take-at, drop-at, drop-drop}
-use Rattle.columns.specs.Place.{placed, Put}
+use native.Mathlib.Numerals.{add-one}
+use lib.ListN.{length, take, drop, set, length-append, length-drop}
+use lib.Seq.{length-take-le, take-at, drop-at, drop-drop, set-split}
+use Rattle.lists.specs.Place.{placed, Put}
+
+-- a store splits the list at its place
+pub put-one : (list : List ℕ) (at number : ℕ) → at < length list → Put at (number ∷ []) list (set list at number) (at + 1)
+unfolding placed
+put-one list at number h = record { buffer = rw add-one (set-split list at number h); end = refl }
 
 pub length-placed : (at : ℕ) (bytes buffer : List ℕ) → at + length bytes ≤ length buffer → length (placed at bytes buffer) ≡ length buffer
 unfolding placed

@@ -1,0 +1,5 @@
+pub mod Below
+pub mod Sums
+pub mod TableLaws
+pub mod PlaceLaws
+pub mod Pieces
