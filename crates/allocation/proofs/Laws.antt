@@ -1,0 +1,88 @@
+-- What users of the published method rely on: nothing is lost, no share is too great, results have their size, means are nearest. Assumes nothing.
+use Prim.Native.Nat.{ℕ, zero, suc, _+_, _*_}
+use mathlib.Core.Path.{_≡_, _∙_}
+use mathlib.Core.Bool.{false}
+use native.Mathlib.Nat.{mul-div-le, lt-mul-div-succ}
+use native.Mathlib.Omega.{arith}
+use lib.Dec.{eqb}
+use lib.ListN.{length, length-append}
+use borrow.Author.Tests.{ne-eqb}
+use Rattle.lists.proofs.TableLaws.{length-table, table-at, length-joined}
+use Rattle.registration.specs.declared.Registration.{Registration}
+use Rattle.lists.specs.Below.{sumBelow}
+use Rattle.registration.specs.Rules.{countAt}
+use Rattle.registration.proofs.Damage.{undamaged-parts}
+use Rattle.allocation.specs.Rounds.{shareIn, roundOf, afterRounds, received}
+use Rattle.allocation.specs.Result.{startOf, pairsOf, roundsFor, allocationOf}
+use Rattle.allocation.specs.Mean.{nearest}
+use Rattle.allocation.specs.Laws.{UndamagedIsShareable, RoundWithinSupply, SupplyAddsUp, WithdrawalAddsUp, WithinWithdrawal}
+use Rattle.allocation.specs.Laws.{AllocationKeepsSupplies, AllocationKeepsWithdrawals, OneRoundWithinKey, ResultSize, MeanIsNearest}
+use Rattle.lists.proofs.Sums.{sum-add}
+use Rattle.allocation.proofs.Consumers.{round-keeps-withdrawal}
+use Rattle.allocation.proofs.Producers.{of-producer-add, taken-within-supply, round-keeps-supply}
+
+pub undamaged-is-shareable : UndamagedIsShareable
+undamaged-is-shareable r e =
+    let parts = undamaged-parts r e in
+    record { point-counts = parts .point-counts; consumers = parts .consumers; keys = parts .keys }
+
+pub round-within-supply : RoundWithinSupply
+round-within-supply r start s producer h = taken-within-supply r start producer s h
+
+-- before the first round the sum of nothing is its own double, so 0; a round adds its shares and takes them from what remains
+pub supply-adds-up : SupplyAddsUp
+unfolding sumBelow afterRounds
+supply-adds-up r start zero s producer h = omega (arith, of-producer-add r (λ consumer priority. 0) (λ consumer priority. 0) producer)
+supply-adds-up r start (suc rounds) s producer h =
+    let before = afterRounds r start rounds in
+    let more = of-producer-add r (received r start rounds) (shareIn r before) producer in
+    omega (arith, more, round-keeps-supply r before producer s h, supply-adds-up r start rounds s producer h)
+
+pub withdrawal-adds-up : WithdrawalAddsUp
+unfolding sumBelow afterRounds
+withdrawal-adds-up r start zero consumer h = omega (arith, sum-add (λ priority. 0) (λ priority. 0) (countAt r consumer))
+withdrawal-adds-up r start (suc rounds) consumer h =
+    let before = afterRounds r start rounds in
+    let more = sum-add (received r start rounds consumer) (shareIn r before consumer) (countAt r consumer) in
+    omega (arith, more, round-keeps-withdrawal r before consumer h, withdrawal-adds-up r start rounds consumer h)
+
+pub within-withdrawal : WithinWithdrawal
+within-withdrawal r start rounds consumer h = omega (arith, withdrawal-adds-up r start rounds consumer h)
+
+pub allocation-keeps-supplies : AllocationKeepsSupplies
+unfolding allocationOf
+allocation-keeps-supplies r magnitude s producer h =
+    supply-adds-up r (startOf r magnitude) (roundsFor r) s producer h ∙ table-at magnitude (r .producers) producer h
+
+pub allocation-keeps-withdrawals : AllocationKeepsWithdrawals
+unfolding allocationOf
+allocation-keeps-withdrawals r magnitude consumer h =
+    withdrawal-adds-up r (startOf r magnitude) (roundsFor r) consumer h
+    ∙ table-at (λ consumer. magnitude (r .producers + consumer)) (r .consumers) consumer h
+
+pub one-round-within-key : OneRoundWithinKey
+unfolding sumBelow afterRounds
+one-round-within-key r start consumer priority = omega arith
+
+pub pairs-length : (r : Registration) (number : ℕ → ℕ → ℕ) → length (pairsOf r number) ≡ sumBelow (countAt r) (r .consumers)
+pairs-length r number = length-joined _ (countAt r) (r .consumers) (λ consumer. length-table (number consumer) (countAt r consumer))
+
+-- what remains has a number for each consumer and each producer, at the start and after each round
+pub remaining-lengths : (r : Registration) (magnitude : ℕ → ℕ) (rounds : ℕ)
+    → (length (afterRounds r (startOf r magnitude) rounds .withdrawals) ≡ r .consumers)
+    × (length (afterRounds r (startOf r magnitude) rounds .supplies) ≡ r .producers)
+unfolding roundOf afterRounds
+remaining-lengths r magnitude zero = (length-table _ (r .consumers), length-table _ (r .producers))
+remaining-lengths r magnitude (suc rounds) = (length-table _ (r .consumers), length-table _ (r .producers))
+
+pub result-size : ResultSize
+unfolding allocationOf
+result-size r magnitude =
+    let pairs = pairs-length r (received r (startOf r magnitude) (roundsFor r)) in
+    rw (length-append, length-append) (omega (arith, pairs, remaining-lengths r magnitude (roundsFor r)))
+
+pub mean-is-nearest : MeanIsNearest
+unfolding nearest
+mean-is-nearest sum count h =
+    let counted : eqb count 0 ≡ false = ne-eqb count 0 (λ e. omega arith) in
+    rw counted (omega (arith, mul-div-le (2 * sum + count) (2 * count), lt-mul-div-succ (2 * sum + count) {b = 2 * count} (omega arith)))

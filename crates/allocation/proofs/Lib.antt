@@ -1,0 +1,11 @@
+pub mod Nearest
+pub mod Added
+pub mod Turns
+pub mod Shareable
+pub mod Served
+pub mod Consumers
+pub mod Producers
+pub mod Bridge
+pub mod Laws
+pub mod Rounded
+pub mod Cases

@@ -1,0 +1,37 @@
+-- The nearest whole number by the quotient and what is left over. Assumes nothing.
+use Prim.Native.Nat.{ℕ, _+_, _-_, _*_, _/_, _%_, _≤_, _<_}
+use mathlib.Core.Path.{_≡_, _∙_}
+use native.Mathlib.Nat.{mul-comm, mul-left-comm, add-mul, div-add-mod, mod-lt, div-eq-of-lt-le, mul-le-mul}
+use native.Mathlib.Omega.{arith}
+use borrow.Author.Tests.{ne-eqb}
+use Rattle.allocation.specs.Mean.{nearest}
+
+-- twice a product, its factors in another order
+doubled : (q c : ℕ) → q * (2 * c) ≡ 2 * (c * q)
+doubled q c = mul-left-comm q 2 c ∙ rw (mul-comm q c)
+
+module _ (sum count : ℕ) (some : 1 ≤ count) where
+  nearest-some : nearest sum count ≡ (2 * sum + count) / (2 * count)
+  unfolding nearest
+  nearest-some = rw (ne-eqb count 0 (omega arith))
+
+  -- the quotient, where what is left over is less than half the count
+  pub nearest-down : sum % count < count - sum % count → nearest sum count ≡ sum / count
+  nearest-down h =
+      nearest-some
+      ∙ div-eq-of-lt-le (2 * count) (omega (arith, doubled (sum / count) count, div-add-mod sum count))
+      (rw add-mul (omega (arith, doubled (sum / count) count, div-add-mod sum count)))
+
+  -- one more, where it is half the count or more
+  pub nearest-up : count - sum % count ≤ sum % count → nearest sum count ≡ sum / count + 1
+  nearest-up h =
+      nearest-some
+      ∙ div-eq-of-lt-le (2 * count)
+      (rw add-mul (omega (arith, doubled (sum / count) count, div-add-mod sum count)))
+      (rw (add-mul, add-mul) (omega (arith, doubled (sum / count) count, div-add-mod sum count, mod-lt sum {m = count} some)))
+
+  -- there is a greater number than the quotient among those up to the sum, where anything is left over
+  pub one-more-fits : count - sum % count ≤ sum % count → sum / count + 1 ≤ sum
+  one-more-fits h =
+      let p : 2 * (sum / count) ≤ count * (sum / count) = mul-le-mul (omega (arith, mod-lt sum {m = count} some)) (omega arith) in
+      omega (arith, div-add-mod sum count, p)

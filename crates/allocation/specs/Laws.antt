@@ -1,0 +1,69 @@
+-- What users of the published method rely on, stated of its definitions; the proofs stand in proofs/Laws.antt. Assumes nothing.
+use Prim.Native.Nat.{ℕ, _+_, _-_, _*_, _/_, _≤_, _<_}
+use mathlib.Core.Path.{_≡_}
+use mathlib.Core.Bool.{false}
+use lib.ListN.{length, getD}
+use Rattle.registration.specs.declared.Registration.{Registration}
+use Rattle.registration.specs.Rules.{sourceAt, keyAt}
+use Rattle.registration.specs.Damage.{isDamaged}
+use Rattle.allocation.specs.Rounds.{Remaining, withdrawalAt, supplyAt, ofConsumer, ofProducer, shareIn, afterRounds, received}
+use Rattle.allocation.specs.Result.{startOf, roundsFor, allocationOf, numbersOf, sizeOf}
+use Rattle.allocation.specs.Mean.{nearest}
+use Rattle.allocation.specs.Input.{Shareable}
+
+-- every undamaged registration can be shared by
+abbrev pub UndamagedIsShareable : Type 0
+UndamagedIsShareable = (r : Registration) → isDamaged r ≡ false → Shareable r
+
+-- a round never takes more from a producer than its supply at the round's start, whatever remains; here the keys' sum of at most 10000 is needed
+abbrev pub RoundWithinSupply : Type 0
+RoundWithinSupply =
+    (r : Registration) (start : Remaining) → Shareable r → (producer : ℕ) → producer < r .producers
+    → ofProducer r (shareIn r start) producer ≤ supplyAt start producer
+
+-- a producer's shares and its remaining supply add up to its supply, after any number of rounds
+abbrev pub SupplyAddsUp : Type 0
+SupplyAddsUp =
+    (r : Registration) (start : Remaining) (rounds : ℕ) → Shareable r → (producer : ℕ) → producer < r .producers
+    → ofProducer r (received r start rounds) producer + supplyAt (afterRounds r start rounds) producer ≡ supplyAt start producer
+
+-- a consumer's shares and its remaining withdrawal add up to its withdrawal, after any number of rounds, in any registration
+abbrev pub WithdrawalAddsUp : Type 0
+WithdrawalAddsUp =
+    (r : Registration) (start : Remaining) (rounds consumer : ℕ) → consumer < r .consumers
+    → ofConsumer r (received r start rounds) consumer + withdrawalAt (afterRounds r start rounds) consumer ≡ withdrawalAt start consumer
+
+-- no consumer receives above its withdrawal
+abbrev pub WithinWithdrawal : Type 0
+WithinWithdrawal =
+    (r : Registration) (start : Remaining) (rounds consumer : ℕ) → consumer < r .consumers
+    → ofConsumer r (received r start rounds) consumer ≤ withdrawalAt start consumer
+
+-- so it is in the allocation of a quarter hour: what a producer shared and what it has left are the magnitude that it supplied
+abbrev pub AllocationKeepsSupplies : Type 0
+AllocationKeepsSupplies =
+    (r : Registration) (magnitude : ℕ → ℕ) → Shareable r → (producer : ℕ) → producer < r .producers
+    → ofProducer r (received r (startOf r magnitude) (roundsFor r)) producer + getD (allocationOf r magnitude .supplies) producer 0 ≡ magnitude producer
+
+-- and what a consumer received and what it has left are the magnitude that it withdrew
+abbrev pub AllocationKeepsWithdrawals : Type 0
+AllocationKeepsWithdrawals =
+    (r : Registration) (magnitude : ℕ → ℕ) (consumer : ℕ) → consumer < r .consumers
+    → ofConsumer r (received r (startOf r magnitude) (roundsFor r)) consumer + getD (allocationOf r magnitude .withdrawals) consumer 0
+    ≡ magnitude (r .producers + consumer)
+
+-- with one round no share exceeds key × supply / 10000
+abbrev pub OneRoundWithinKey : Type 0
+OneRoundWithinKey =
+    (r : Registration) (start : Remaining) (consumer priority : ℕ)
+    → received r start 1 consumer priority ≤ keyAt r consumer priority * supplyAt start (sourceAt r consumer priority - 1) / 10000
+
+-- a result has one number for each pair, each consumer and each producer
+abbrev pub ResultSize : Type 0
+ResultSize = (r : Registration) (magnitude : ℕ → ℕ) → length (numbersOf (allocationOf r magnitude)) ≡ sizeOf r
+
+-- the mean is the whole number nearest to the sum divided by the count, halves up: at most half a unit above it, and less than half a unit below it
+abbrev pub MeanIsNearest : Type 0
+MeanIsNearest =
+    (sum count : ℕ) → 1 ≤ count
+    → (2 * (count * nearest sum count) ≤ 2 * sum + count) × (2 * sum < 2 * (count * nearest sum count) + count)

@@ -1,0 +1,183 @@
+// The published method: how much of each producer's supply every consumer receives in a quarter hour, and the mean that stands in for a
+// missing reading.
+ghost use mathlib.Core.Path.{_≡_};
+ghost use Prim.Native.Nat.{_+_, _≤_, _<_};
+ghost use lib.ListN.{length, getD};
+ghost use Rattle.lists.specs.Place.{Put};
+ghost use Rattle.registration.specs.Rules.{points, placeAt};
+ghost use Rattle.allocation.specs.Input.{Shareable, Magnitudes};
+ghost use Rattle.allocation.specs.Rounds.{roundsOf, offerOf, shareOf};
+ghost use Rattle.allocation.specs.Result.{pairsOf, sizeOf};
+ghost use Rattle.allocation.specs.Mean.{nearest};
+ghost use Rattle.allocation.specs.Working.{offerFor, BeforeTurn, TurnMade, PairsWithin, RoundMade, Allocated};
+use registration::Registration;
+
+// The most rounds that there are, and the most points with which there is more than one.
+pub const ROUNDS_MOST: usize = 5;
+
+pub const POINTS_ITERATED_MOST: usize = 50;
+
+// The sum of values divided by their count, rounded to the nearest whole number, halves up; 0 where there is none.
+pub fn mean(sum: u64, count: u64) -> u64
+    ensures { λ r. ⌜ r ≡ nearest sum count ⌝ }
+{
+    if count == 0 {
+        return 0;
+    }
+    let whole = sum / count;
+    let rest = sum % count;
+    if rest < count - rest {
+        return whole;
+    }
+    whole + 1
+}
+
+// How many rounds a group of so many points and consumers has.
+pub fn rounds(iteration: u8, points: usize, consumers: usize) -> usize
+    ensures { λ r. ⌜ r ≡ roundsOf iteration points consumers ⌝ }
+{
+    if iteration != 1 {
+        return 1;
+    }
+    if points > POINTS_ITERATED_MOST {
+        return 1;
+    }
+    if consumers < ROUNDS_MOST {
+        return consumers;
+    }
+    ROUNDS_MOST
+}
+
+// How many numbers a result has: one for each pair, each consumer and each producer.
+pub fn size(registration: Registration) -> usize
+    requires { ⌜ points registration ≤ 64 ⌝ }
+    ensures { λ r. ⌜ r ≡ sizeOf registration ⌝ }
+{
+    let counts = registration.counts;
+    let consumers = registration.consumers;
+    let mut pairs = 0;
+    let mut consumer = 0;
+    while consumer < consumers {
+        pairs += counts[consumer] as usize;
+        consumer += 1;
+    }
+    pairs + consumers + registration.producers
+}
+
+// A pair's share: the smaller of the remaining withdrawal and what the key gives of the supply, rounded down.
+fn share_of(withdrawal: u64, key: u64, supply: u64) -> u64
+    requires { ⌜ (key ≤ 10000) × (supply ≤ 99999999) ⌝ }
+    ensures { λ r. ⌜ r ≡ shareOf withdrawal (offerOf key supply) ⌝ }
+{
+    let offer = key * supply / Registration::KEY_MOST;
+    if offer < withdrawal {
+        return offer;
+    }
+    withdrawal
+}
+
+// A consumer's turn in a round: it goes through its producers by priority. Each share lowers what it has left to withdraw, which is
+// returned, and is added to what is taken from the producer and to the pair's sum.
+fn turn(
+    consumer: usize,
+    count: usize,
+    withdrawal: u64,
+    sources: &[u8; 320],
+    keys: &[u16; 320],
+    supplies: &[u64; 64],
+    taken: &mut [u64],
+    shares: &mut [u64],
+) -> u64
+    requires { ⌜ (length (now taken) ≡ 64) × (length (now shares) ≡ 320) × BeforeTurn (now sources) (now keys) (now supplies) (now taken) (now shares) consumer count ⌝ }
+    ensures { λ r. ⌜ TurnMade (offerFor (now (sources .entry)) (now (keys .entry)) (now (supplies .entry)) consumer) (placeAt (now (sources .entry)) consumer) consumer count withdrawal (now (taken .entry)) (now (taken .exit)) (now (shares .entry)) (now (shares .exit)) r ⌝ }
+{
+    let mut left = withdrawal;
+    let mut priority = 0;
+    while priority < count {
+        let place = 5 * consumer + priority;
+        let source = sources[place] as usize;
+        let producer = source - 1;
+        let share = share_of(left, keys[place] as u64, supplies[producer]);
+        left = left - share;
+        taken[producer] = taken[producer] + share;
+        shares[place] = shares[place] + share;
+        priority += 1;
+    }
+    left
+}
+
+// A round: every consumer has its turn, with the supplies as they are at the round's start; when the round ends each supply falls by all
+// shares taken from it.
+fn make_round(registration: Registration, left: [u64; 64], shares: &mut [u64]) -> [u64; 64]
+    requires { ⌜ Shareable registration × Magnitudes registration (λ point. getD left point 0) × (length (now shares) ≡ 320) × PairsWithin registration (now shares) ⌝ }
+    ensures { λ r. ⌜ RoundMade registration left r (now (shares .entry)) (now (shares .exit)) ⌝ }
+{
+    let producers = registration.producers;
+    let consumers = registration.consumers;
+    let counts = registration.counts;
+    let sources = registration.sources;
+    let keys = registration.keys;
+    let mut rest = left;
+    let mut taken = [0; 64];
+    let mut consumer = 0;
+    while consumer < consumers {
+        let point = producers + consumer;
+        let count = counts[consumer] as usize;
+        rest[point] = turn(
+            consumer,
+            count,
+            left[point],
+            &sources,
+            &keys,
+            &left,
+            &mut taken,
+            shares,
+        );
+        consumer += 1;
+    }
+    let mut producer = 0;
+    while producer < producers {
+        rest[producer] = left[producer] - taken[producer];
+        producer += 1;
+    }
+    rest
+}
+
+// Puts the pairs' sums at the front of a result, consumers in order and priorities within, and returns the place after them.
+fn put_shares(out: &mut [u64], registration: Registration, shares: &[u64; 320]) -> usize
+    requires { ⌜ Shareable registration × (length (pairsOf registration (placeAt (now shares))) ≤ length (now out)) ⌝ }
+    ensures { λ r. ⌜ Put 0 (pairsOf registration (placeAt (now (shares .entry)))) (now (out .entry)) (now (out .exit)) r ⌝ }
+{
+    let counts = registration.counts;
+    let consumers = registration.consumers;
+    let mut at = 0;
+    let mut consumer = 0;
+    while consumer < consumers {
+        let count = counts[consumer] as usize;
+        at = lists::put_part(out, at, shares, 5 * consumer, count);
+        consumer += 1;
+    }
+    at
+}
+
+// The allocation of a quarter hour from the magnitudes of all points, producers first. The result list gets the pairs' shares, the
+// remaining withdrawals and the remaining supplies; its later numbers stay. Returns the round count.
+pub fn allocate(registration: Registration, magnitudes: [u64; 64], result: &mut [u64]) -> usize
+    requires { ⌜ Shareable registration × Magnitudes registration (λ point. getD magnitudes point 0) × (sizeOf registration ≤ length (now result)) ⌝ }
+    ensures { λ r. ⌜ Allocated registration (λ point. getD magnitudes point 0) (now (result .entry)) (now (result .exit)) r ⌝ }
+{
+    let producers = registration.producers;
+    let consumers = registration.consumers;
+    let most = rounds(registration.iteration, producers + consumers, consumers);
+    let mut left = magnitudes;
+    let mut shares = [0; 320];
+    let mut round = 0;
+    while round < most {
+        left = make_round(registration, left, &mut shares);
+        round += 1;
+    }
+    let after_shares = put_shares(result, registration, &shares);
+    let after_withdrawals = lists::put_part(result, after_shares, &left, producers, consumers);
+    lists::put_part(result, after_withdrawals, &left, 0, producers);
+    most
+}
