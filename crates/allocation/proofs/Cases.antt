@@ -151,16 +151,24 @@ rows =
     row "six consumers have five rounds" (alike 1 6 1000) 5 (1000 ∷ 1000 ∷ replicate 5 0) 5 (408 ∷ replicate 5 0) (592 ∷ replicate 5 0)
     (592 ∷ []) (408 ∷ replicate 5 0) (408 ∷ []) ∷ []
 
--- the group is undamaged and has its rounds, and its numbers are the row's
+-- the group has its rounds, and its numbers are the row's
 unfoldable right : Row → Bool
 right w =
     let r = w .registration in
     let start = startOf r (λ point. getD (w .magnitudes) point 0) in
     let left = afterRounds r start (w .after) in
     let share = received r start (w .after) in
-    not (isDamaged r) && eqb (roundsFor r) (w .rounds) && same (pairsOf r share) (w .shares) && same (left .withdrawals) (w .withdrawals)
+    eqb (roundsFor r) (w .rounds) && same (pairsOf r share) (w .shares) && same (left .withdrawals) (w .withdrawals)
     && same (left .supplies) (w .supplies) && same (table (ofConsumer r share) (r .consumers)) (w .consumed)
     && same (table (ofProducer r share) (r .producers)) (w .produced)
+
+-- the groups of the rows
+unfoldable groups : List Registration
+groups = example1 ∷ example2 ∷ example3 ∷ example4 ∷ list ∷ alike 48 2 5000 ∷ alike 49 2 5000 ∷ alike 1 6 1000 ∷ []
+
+-- a registration that no rule refuses
+abbrev undamaged : Registration → Bool
+undamaged r = not (isDamaged r)
 
 -- values that exist, and their mean
 record Mean : Type 0 where
@@ -186,7 +194,7 @@ unfoldable all : {A : Type 0} → (A → Bool) → List A → Bool
 all test [] = true
 all test (w ∷ ws) = test w && all test ws
 
--- every row is right
-cases : all right rows && all meant means ≡ true
-unfolding all right rows means same padded places group example1 example2 example3 example4 list coded alike joined isDamaged every sumBelow differ pairsRight isCode weighted roundsOf leftAt roundOf afterRounds sumOf nearest
+-- every row is right, and its group undamaged
+cases : all undamaged groups && all right rows && all meant means ≡ true
+unfolding all right groups rows means same padded places group example1 example2 example3 example4 list coded alike joined isDamaged every sumBelow differ pairsRight isCode weighted roundsOf leftAt roundOf afterRounds sumOf nearest
 cases = refl

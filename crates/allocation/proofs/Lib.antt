@@ -1,8 +1,6 @@
 pub mod Nearest
-pub mod Added
 pub mod Turns
 pub mod Shareable
-pub mod Served
 pub mod Consumers
 pub mod Producers
 pub mod Bridge

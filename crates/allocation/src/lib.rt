@@ -9,7 +9,7 @@ ghost use Rattle.allocation.specs.Input.{Shareable, Magnitudes};
 ghost use Rattle.allocation.specs.Rounds.{roundsOf, offerOf, shareOf};
 ghost use Rattle.allocation.specs.Result.{pairsOf, sizeOf};
 ghost use Rattle.allocation.specs.Mean.{nearest};
-ghost use Rattle.allocation.specs.Working.{offerFor, BeforeTurn, TurnMade, PairsWithin, RoundMade, Allocated};
+ghost use Rattle.allocation.specs.Working.{PairsWithin, RoundMade, Allocated};
 use registration::Registration;
 
 // The most rounds that there are, and the most points with which there is more than one.
@@ -76,71 +76,38 @@ fn share_of(withdrawal: u64, key: u64, supply: u64) -> u64
     withdrawal
 }
 
-// A consumer's turn in a round: it goes through its producers by priority. Each share lowers what it has left to withdraw, which is
-// returned, and is added to what is taken from the producer and to the pair's sum.
-fn turn(
-    consumer: usize,
-    count: usize,
-    withdrawal: u64,
-    sources: &[u8; 320],
-    keys: &[u16; 320],
-    supplies: &[u64; 64],
-    taken: &mut [u64],
-    shares: &mut [u64],
-) -> u64
-    requires { ⌜ (length (now taken) ≡ 64) × (length (now shares) ≡ 320) × BeforeTurn (now sources) (now keys) (now supplies) (now taken) (now shares) consumer count ⌝ }
-    ensures { λ r. ⌜ TurnMade (offerFor (now (sources .entry)) (now (keys .entry)) (now (supplies .entry)) consumer) (placeAt (now (sources .entry)) consumer) consumer count withdrawal (now (taken .entry)) (now (taken .exit)) (now (shares .entry)) (now (shares .exit)) r ⌝ }
-{
-    let mut left = withdrawal;
-    let mut priority = 0;
-    while priority < count {
-        let place = 5 * consumer + priority;
-        let source = sources[place] as usize;
-        let producer = source - 1;
-        let share = share_of(left, keys[place] as u64, supplies[producer]);
-        left = left - share;
-        taken[producer] = taken[producer] + share;
-        shares[place] = shares[place] + share;
-        priority += 1;
-    }
-    left
-}
-
-// A round: every consumer has its turn, with the supplies as they are at the round's start; when the round ends each supply falls by all
-// shares taken from it.
-fn make_round(registration: Registration, left: [u64; 64], shares: &mut [u64]) -> [u64; 64]
-    requires { ⌜ Shareable registration × Magnitudes registration (λ point. getD left point 0) × (length (now shares) ≡ 320) × PairsWithin registration (now shares) ⌝ }
-    ensures { λ r. ⌜ RoundMade registration left r (now (shares .entry)) (now (shares .exit)) ⌝ }
+// A round from what is left of each point at its start: every consumer goes through its producers by priority. A share lowers what is
+// left of the withdrawal at once, and of the supply for the next round: what is offered in this one rests on the supplies at its start.
+fn make_round(registration: Registration, start: [u64; 64], shares: &mut [u64]) -> [u64; 64]
+    requires { ⌜ Shareable registration × Magnitudes registration (λ point. getD start point 0) × (length (now shares) ≡ 320) × PairsWithin registration (now shares) ⌝ }
+    ensures { λ r. ⌜ RoundMade registration start r (now (shares .entry)) (now (shares .exit)) ⌝ }
 {
     let producers = registration.producers;
     let consumers = registration.consumers;
     let counts = registration.counts;
     let sources = registration.sources;
     let keys = registration.keys;
-    let mut rest = left;
-    let mut taken = [0; 64];
+    let mut left = start;
     let mut consumer = 0;
     while consumer < consumers {
         let point = producers + consumer;
         let count = counts[consumer] as usize;
-        rest[point] = turn(
-            consumer,
-            count,
-            left[point],
-            &sources,
-            &keys,
-            &left,
-            &mut taken,
-            shares,
-        );
+        let mut withdrawal = start[point];
+        let mut priority = 0;
+        while priority < count {
+            let place = 5 * consumer + priority;
+            let source = sources[place] as usize;
+            let producer = source - 1;
+            let share = share_of(withdrawal, keys[place] as u64, start[producer]);
+            withdrawal = withdrawal - share;
+            left[producer] = left[producer] - share;
+            shares[place] = shares[place] + share;
+            priority += 1;
+        }
+        left[point] = withdrawal;
         consumer += 1;
     }
-    let mut producer = 0;
-    while producer < producers {
-        rest[producer] = left[producer] - taken[producer];
-        producer += 1;
-    }
-    rest
+    left
 }
 
 // Puts the pairs' sums at the front of a result, consumers in order and priorities within, and returns the place after them.
@@ -171,7 +138,7 @@ pub fn allocate(registration: Registration, magnitudes: [u64; 64], result: &mut 
     let most = rounds(registration.iteration, producers + consumers, consumers);
     let mut left = magnitudes;
     let mut shares = [0; 320];
-    let mut round = 0;
+    let mut round: usize = 0;
     while round < most {
         left = make_round(registration, left, &mut shares);
         round += 1;

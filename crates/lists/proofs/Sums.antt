@@ -1,13 +1,12 @@
 -- Sums over the numbers below n: of two functions, of one within another, over more numbers, row by row, and of one number among them. Assumes nothing.
 use Prim.Native.Nat.{ℕ, zero, suc, _+_, _*_, _≤_, _<_}
-use mathlib.Core.Path.{_≡_, refl, _∙_}
+use mathlib.Core.Path.{_≡_, refl, subst, _∙_}
 use mathlib.Core.Logic.{⊎-elim}
 use mathlib.Core.Bool.{Bool, true, false, cond}
 use native.Mathlib.Nat.{add-zero, add-suc, mul-zero, mul-suc, mul-le-mul-right, le-trans, add-sub-of-le, not-suc-le-zero, eq-or-lt-of-le, le-of-suc-le-suc}
-use native.Mathlib.Numerals.{add-one}
 use native.Mathlib.Omega.{arith}
 use Rattle.lists.specs.Below.{sumBelow}
-use Rattle.lists.proofs.Below.{sum-none, sum-next, sum-same}
+use Rattle.lists.proofs.Below.{sum-next, sum-same}
 
 pub sum-add : (f g : ℕ → ℕ) (n : ℕ) → sumBelow (λ i. f i + g i) n ≡ sumBelow f n + sumBelow g n
 unfolding sumBelow
@@ -58,19 +57,16 @@ rows-within f g size a b width m n h fits within =
     (sum-within _ _ a b m n h
     (λ row l. sum-within (f row) (λ k. g (width * row + k)) a b (size row) width (fits row l) (λ k. within row k l)))
 
--- a sum in which only one number counts, and one in which none does
-pub sum-zeros : (f : ℕ → ℕ) (n : ℕ) → ((i : ℕ) → i < n → f i ≡ 0) → sumBelow f n ≡ 0
-sum-zeros f zero none = sum-none f
-sum-zeros f (suc n) none =
-    rw (← add-one n, sum-next) (omega (arith, sum-zeros f n (λ i h. none i (omega arith)), none n (omega arith)))
-
-pub sum-only : (f : ℕ → ℕ) (n k : ℕ) → k < n → ((i : ℕ) → i < n → (i ≡ k → ⊥) → f i ≡ 0) → sumBelow f n ≡ f k
-sum-only f zero k h rest = absurd (not-suc-le-zero h)
-sum-only f (suc n) k h rest =
-    rw (← add-one n, sum-next)
-    (⊎-elim (λ e. rw e (omega (arith, sum-zeros f n (λ i l. rest i (omega arith) (omega arith)))))
-    (λ l. omega (arith, sum-only f n k l (λ i m d. rest i (omega arith) d), rest n (omega arith) (omega arith))) (eq-or-lt-of-le (le-of-suc-le-suc h)))
-
 -- one number of a sum is within it
 pub sum-term : (f : ℕ → ℕ) (n k : ℕ) → k < n → f k ≤ sumBelow f n
 sum-term f n k h = omega (arith, sum-next f k, sum-more f (k + 1) n (omega arith))
+
+-- a sum rises by as much as one of its numbers
+pub sum-raised : (f g : ℕ → ℕ) (n k d : ℕ) → k < n → g k ≡ f k + d → ((i : ℕ) → i < n → (i ≡ k → ⊥) → g i ≡ f i) → sumBelow g n ≡ sumBelow f n + d
+unfolding sumBelow
+sum-raised f g zero k d h here others = absurd (not-suc-le-zero h)
+sum-raised f g (suc n) k d h here others =
+    ⊎-elim
+    (λ e. omega (arith, sum-same g f n (λ i l. others i (omega arith) (omega arith)), subst (λ (i : ℕ). g i ≡ f i + d) e here))
+    (λ l. omega (arith, sum-raised f g n k d l here (λ i m. others i (omega arith)), others n (omega arith) (omega arith)))
+    (eq-or-lt-of-le (le-of-suc-le-suc h))

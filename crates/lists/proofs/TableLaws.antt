@@ -5,7 +5,7 @@ use mathlib.Core.List.{List, [], _∷_, _++_}
 use mathlib.Core.Logic.{⊎-elim}
 use native.Mathlib.Nat.{mul-zero, mul-suc, not-suc-le-zero, eq-or-lt-of-le, le-of-suc-le-suc}
 use native.Mathlib.Omega.{arith}
-use lib.ListN.{length, getD, length-append, List·getD-append}
+use lib.ListN.{length, getD, replicate, length-append, List·getD-append}
 use lib.Seq.{getD-append-seam}
 use Rattle.lists.specs.Below.{sumBelow}
 use Rattle.lists.specs.Tables.{joined, table}
@@ -48,3 +48,9 @@ pub length-even : (piece : ℕ → List ℕ) (size n : ℕ) → ((i : ℕ) → l
 unfolding joined
 length-even piece size zero each = rw mul-zero
 length-even piece size (suc n) each = rw (length-append, length-even piece size n each, each n, mul-suc)
+
+-- a list of zeros has 0 at every place
+pub zeros : (n i : ℕ) → getD {A = ℕ} (replicate n 0) i 0 ≡ 0
+zeros zero i = refl
+zeros (suc n) zero = refl
+zeros (suc n) (suc i) = zeros n i

@@ -4,10 +4,9 @@ use native.Mathlib.Omega.{arith}
 use Prim.Native.Nat.{ℕ, _+_, _-_}
 use mathlib.Core.Path.{sym, _∙_}
 use lib.ListN.{getD, length-replicate}
-use Rattle.lists.proofs.TableLaws.{length-table}
+use Rattle.lists.proofs.TableLaws.{length-table, zeros}
 use Rattle.registration.specs.Rules.{placeAt}
 use Rattle.allocation.proofs.Laws.{pairs-length}
-use Rattle.allocation.proofs.Served.{zeros}
 use Rattle.allocation.proofs.Shareable.{few-points}
 use Rattle.allocation.proofs.Rounded.{Rounded, rounded-none, rounded-next, still-magnitudes, still-within, allocated}
 use Rattle.allocation.proofs.allocate.Statement.{statement}

@@ -1,201 +1,302 @@
--- `allocation::make_round` meets its contract: consumers have their turns, then supplies fall. Assumes nothing.
+-- `allocation::make_round` meets its contract: consumer by consumer, and priority by priority within its turn. Assumes nothing.
 use borrow.Author.Needs.{needs}
 use native.Mathlib.Omega.{arith}
+use native.Mathlib.Nat.{le-antisymm, le-trans, min-le-right}
 use Prim.Native.Nat.{ℕ, _+_, _-_, _≤_, _<_}
-use native.Mathlib.Nat.{le-antisymm}
-use mathlib.Core.Path.{_≡_, subst, _∙_}
-use lib.ListN.{length, getD, length-set}
-use lib.Seq.{getD-set-same, getD-set-other}
-use borrow.Author.Count.{below-more}
-use Rattle.registration.specs.Rules.{countAt}
+use mathlib.Core.Path.{_≡_, sym, _∙_}
+use lib.ListN.{length, getD}
+use Rattle.registration.specs.declared.Registration.{Registration}
+use Rattle.registration.specs.Rules.{countAt, sourceAt, keyAt}
+use Rattle.registration.proofs.Bounds.{PairBounds}
 use Rattle.allocation.specs.Input.{Shareable, Magnitudes}
-use Rattle.allocation.specs.Working.{BeforeTurn, PairsWithin}
-use Rattle.allocation.proofs.Shareable.{few-points, count-most}
-use Rattle.allocation.proofs.Served.{Served, served-none, served-next}
-use Rattle.allocation.proofs.Bridge.{before-turn, taken-within, round-made}
+use Rattle.allocation.specs.Rounds.{leftAt}
+use Rattle.allocation.specs.Working.{PairsWithin}
+use Rattle.allocation.proofs.Shareable.{few-points, count-most, pair-of}
+use Rattle.allocation.proofs.Turns.{passedAt, passed-none, passed-here, passed-other, passed-most, passed-turn, offer-small, shareFor, Fallen, fallen-same, fallen-none, fallen-turn, fallen-all, left-none, share-here, left-here, offerFor, Step, fallen-next, share-within, Given, given-none, given-next, given-all, Own, own-none, own-next}
+use Rattle.allocation.proofs.Bridge.{taken-within, round-made}
 use Rattle.allocation.proofs.make_round.Statement.{statement}
 use Rattle.allocation.proofs.make_round.Tie as tie
 
-abbrev Inv-loop : tie.InvT-loop
-Inv-loop shares₀ left producers consumers counts sources keys rest₀ taken₀ consumer₀ shares rest taken consumer =
-    Served counts sources keys left producers consumers shares₀ shares rest taken consumer
-
-abbrev μ-loop : tie.MeasureT-loop
-μ-loop shares₀ left producers consumers counts sources keys rest₀ taken₀ consumer₀ shares rest taken consumer =
-    consumers - consumer
-
 abbrev Inv-loop2 : tie.InvT-loop2
-Inv-loop2 shares left producers consumers rest₀ taken consumer producer₀ rest producer =
-    (producer ≤ producers) × (length rest ≡ 64) × ((p : ℕ) → p < producer → getD rest p 0 ≡ getD left p 0 - getD taken p 0)
-    × ((j : ℕ) → producers ≤ j → getD rest j 0 ≡ getD rest₀ j 0)
+Inv-loop2 shares₀ start producers consumers counts sources keys left₀ consumer point count withdrawal₀ priority₀ shares left withdrawal priority =
+    (priority ≤ count)
+    × (withdrawal ≡ leftAt (offerFor counts sources keys start producers consumers consumer) (getD start point 0) priority)
+    × Fallen counts sources keys start producers consumers consumer (passedAt counts consumer priority) left
+    × Own counts sources keys start producers consumers shares₀ shares consumer priority
 
 abbrev μ-loop2 : tie.MeasureT-loop2
-μ-loop2 shares left producers consumers rest₀ taken consumer producer₀ rest producer = producers - producer
+μ-loop2 shares₀ start producers consumers counts sources keys left₀ consumer point count withdrawal₀ priority₀ shares left withdrawal priority = count - priority
 
--- a consumer's turn: its point is one of the 64, and the arrays are as they must be
+abbrev Inv-loop : tie.InvT-loop
+Inv-loop shares₀ start producers consumers counts sources keys left₀ consumer₀ shares left consumer =
+    (consumer ≤ consumers)
+    × Fallen counts sources keys start producers consumers consumer (passedAt counts consumer 0) left
+    × Given counts sources keys start producers consumers shares₀ shares consumer
+
+abbrev μ-loop : tie.MeasureT-loop
+μ-loop shares₀ start producers consumers counts sources keys left₀ consumer₀ shares left consumer = consumers - consumer
+
+-- a priority of a consumer's turn: it is one of the consumer's, and names a producer of the group
 abbrev In : Type 0
-In = tie.In-loop Inv-loop μ-loop Inv-loop2 μ-loop2
+In = tie.In-loop2 Inv-loop2 μ-loop2 Inv-loop μ-loop
 
-abbrev pre-of : (c : In) → let a = c .before .before .before .before .before .before .args in
+abbrev group : In → Registration
+group c = c .before .before .before .before .before .before .before .before .args .registration
+
+abbrev consumer-of : In → ℕ
+consumer-of c = c .before .before .before .loop .consumer
+
+abbrev asked : (c : In) → let a = c .before .before .before .before .before .before .before .before .args in
     Shareable (a .registration) × Magnitudes (a .registration) (λ point. getD (a .t2) point 0) × (length (a .shares .now) ≡ 320)
     × PairsWithin (a .registration) (a .shares .now)
-pre-of c = c .before .before .before .before .before .before .pre
+asked c = c .before .before .before .before .before .before .before .before .pre
 
-room : (c : In) → c .before .before .before .before .before .before .args .registration .producers + c .before .loop .consumer < 64
-room c = omega (arith, few-points (pre-of c .0), c .loop-test .taken)
+one-of-64 : (c : In) → group c .producers + consumer-of c < 64
+one-of-64 c = omega (arith, few-points (asked c .0), c .before .before .loop-test .taken)
 
-ready : (c : In) → let a = c .before .before .before .before .before .before .args in
-    BeforeTurn (a .registration .sources) (a .registration .keys) (a .t2) (c .before .loop .taken) (c .before .loop .shares) (c .before .loop .consumer)
-    (countAt (a .registration) (c .before .loop .consumer))
-ready c =
-    let p = pre-of c in
-    before-turn (p .0) (c .before .before .before .before .before .before .args .t2) (p .1) (p .3) (c .before .loop .inv) (c .loop-test .taken)
+few : (c : In) → countAt (group c) (consumer-of c) ≤ 5
+few c = count-most (asked c .0) (consumer-of c) (c .before .before .loop-test .taken)
 
--- after the consumers' turns
-abbrev Past : Type 0
-Past = tie.After-loop Inv-loop μ-loop Inv-loop2 μ-loop2
+pair : (c : In) → PairBounds (group c .producers) (sourceAt (group c) (consumer-of c) (c .before .loop2 .priority)) (keyAt (group c) (consumer-of c) (c .before .loop2 .priority))
+pair c = pair-of (asked c .0) (consumer-of c) (c .before .loop2 .priority) (c .before .before .loop-test .taken) (c .loop2-test .taken)
 
-all-served : (c : Past) → let a = c .before .before .before .before .before .before .args in
-    Served (a .registration .counts) (a .registration .sources) (a .registration .keys) (a .t2) (a .registration .producers) (a .registration .consumers)
-    (a .shares .now) (c .before .loop .shares) (c .before .loop .rest) (c .before .loop .taken) (a .registration .consumers)
-all-served c =
-    let a = c .before .before .before .before .before .before .args in
-    let l = c .before .loop in
-    subst
-    (λ (n : ℕ).
-    Served (a .registration .counts) (a .registration .sources) (a .registration .keys) (a .t2) (a .registration .producers) (a .registration .consumers)
-    (a .shares .now) (l .shares) (l .rest) (l .taken) n)
-    (le-antisymm (l .inv .passed) (c .loop-test .left)) (l .inv)
+producer-of-64 : (c : In) → sourceAt (group c) (consumer-of c) (c .before .loop2 .priority) - 1 < 64
+producer-of-64 c = omega (arith, pair c .source-least, pair c .source-most, few-points (asked c .0))
 
-few-producers : (c : Past) → c .before .before .before .before .before .before .args .registration .producers ≤ 64
-few-producers c = omega (arith, few-points (c .before .before .before .before .before .before .pre .0))
+supply-most : (c : In) → getD (c .before .before .before .before .before .before .before .before .args .t2) (sourceAt (group c) (consumer-of c) (c .before .loop2 .priority) - 1) 0 ≤ 99999999
+supply-most c = asked c .1 _ (omega (arith, pair c .source-least, pair c .source-most))
 
-loop-holds : tie.Need-loop-holds Inv-loop μ-loop Inv-loop2 μ-loop2
-loop-holds c = served-none _ _ _ _ _ _ _ _ (search needs)
+sums-size : (c : In) → length (c .before .loop2 .shares) ≡ 320
+sums-size c = c .before .loop2 .inv .3 .size ∙ c .before .before .before .loop .inv .2 .size ∙ asked c .2
 
-add-point : tie.Need-add-point Inv-loop μ-loop Inv-loop2 μ-loop2
-add-point c = omega (arith, room c)
+-- the share that was worked out: it is the definition's, and within what the producer has left
+abbrev Shared : Type 0
+Shared = tie.After-share-of Inv-loop2 μ-loop2 Inv-loop μ-loop
 
-array-read-count : tie.Need-array-read-count Inv-loop μ-loop Inv-loop2 μ-loop2
-array-read-count c = omega (arith, room c)
+share-is : (c : Shared) → let i = c .before in let a = c .before .before .before .before .before .before .before .before .before .args in
+    c .share-of .result ≡ shareFor (group i .counts) (group i .sources) (group i .keys) (a .t2) (group i .producers) (group i .consumers) (consumer-of i) (i .before .loop2 .priority)
+share-is c =
+    let i = c .before in
+    share-here _ _ _ (i .before .loop2 .inv .1) (c .share-of .ensures)
 
-cast-count : tie.Need-cast-count Inv-loop μ-loop Inv-loop2 μ-loop2
+share-most : (c : Shared) → c .share-of .result ≤ 99999999
+share-most c =
+    rw (c .share-of .ensures) (le-trans (min-le-right _ _) (offer-small _ _ 99999999 (pair (c .before) .key-most) (supply-most (c .before))))
+
+step : (c : In) → let n = c .before .loop2 .priority in
+    Step (group c .counts) (group c .sources) (group c .keys) (c .before .before .before .before .before .before .before .before .args .t2) (group c .producers) (group c .consumers)
+    (passedAt (group c .counts) (consumer-of c) n) (passedAt (group c .counts) (consumer-of c) (n + 1)) (consumer-of c) n
+step c =
+    let n = c .before .loop2 .priority in
+    record {
+      few = few-points (asked c .0);
+      one-of = c .before .before .loop-test .taken;
+      here = passed-here (group c .counts) (consumer-of c) n;
+      there = passed-here (group c .counts) (consumer-of c) (n + 1);
+      others = passed-other (group c .counts) (consumer-of c) (n + 1) n;
+      within = passed-most (group c .counts) (consumer-of c) (n + 1) (omega (arith, c .loop2-test .taken));
+      least = pair c .source-least;
+      most = pair c .source-most;
+      total = taken-within (asked c .0) (c .before .before .before .before .before .before .before .before .args .t2);
+    }
+
+share-fits : (c : Shared) → let i = c .before in
+    c .share-of .result ≤ getD (i .before .loop2 .left) (sourceAt (group i) (consumer-of i) (i .before .loop2 .priority) - 1) 0
+share-fits c = rw (share-is c) (share-within _ _ _ _ _ _ (c .before .before .loop2 .inv .2) (step (c .before)))
+
+loop-holds : tie.Need-loop-holds Inv-loop2 μ-loop2 Inv-loop μ-loop
+loop-holds c = (
+  omega arith,
+  fallen-same _ _ _ _ _ _ (fallen-none _ _ _ _ _ _ (search needs)) (λ k h. passed-none (c .before .before .before .before .args .registration .counts) k),
+  given-none _ _ _ _ _ _ _,
+)
+
+add-point : tie.Need-add-point Inv-loop2 μ-loop2 Inv-loop μ-loop
+add-point c = omega (arith, few-points (c .before .before .before .before .before .before .pre .0), c .loop-test .taken)
+
+array-read-count : tie.Need-array-read-count Inv-loop2 μ-loop2 Inv-loop μ-loop
+array-read-count c = omega (arith, few-points (c .before .before .before .before .before .before .pre .0), c .loop-test .taken)
+
+cast-count : tie.Need-cast-count Inv-loop2 μ-loop2 Inv-loop μ-loop
 cast-count c = search needs
 
-mul-turn : tie.Need-mul-turn Inv-loop μ-loop Inv-loop2 μ-loop2
-mul-turn c = omega (arith, room c)
+mul-withdrawal : tie.Need-mul-withdrawal Inv-loop2 μ-loop2 Inv-loop μ-loop
+mul-withdrawal c = omega (arith, few-points (c .before .before .before .before .before .before .pre .0), c .loop-test .taken)
 
-array-read-turn : tie.Need-array-read-turn Inv-loop μ-loop Inv-loop2 μ-loop2
-array-read-turn c = room c
+array-read-withdrawal : tie.Need-array-read-withdrawal Inv-loop2 μ-loop2 Inv-loop μ-loop
+array-read-withdrawal c = omega (arith, few-points (c .before .before .before .before .before .before .pre .0), c .loop-test .taken)
 
-slice-aggregate-turn : tie.Need-slice-aggregate-turn Inv-loop μ-loop Inv-loop2 μ-loop2
-slice-aggregate-turn c = search needs
+loop2-holds : tie.Need-loop2-holds Inv-loop2 μ-loop2 Inv-loop μ-loop
+loop2-holds c =
+    (omega arith, sym (left-none _ _), c .before .loop .inv .1, own-none _ _ _ _ _ _ _ _)
 
-turn-requires : tie.Need-turn-requires Inv-loop μ-loop Inv-loop2 μ-loop2
-turn-requires c κs =
-    let i = c .before .before .before .before .before in
-    (i .before .loop .inv .taken-size, i .before .loop .inv .shares-size ∙ pre-of i .2, ready i)
+mul-place : tie.Need-mul-place Inv-loop2 μ-loop2 Inv-loop μ-loop
+mul-place c = omega (arith, one-of-64 c, few c, c .loop2-test .taken)
 
-mul-rest : tie.Need-mul-rest Inv-loop μ-loop Inv-loop2 μ-loop2
-mul-rest c = omega (arith, room (c .before .before .before .before .before .before .before .before .before))
+add-place : tie.Need-add-place Inv-loop2 μ-loop2 Inv-loop μ-loop
+add-place c = omega (arith, one-of-64 c, few c, c .loop2-test .taken)
 
-array-write-rest : tie.Need-array-write-rest Inv-loop μ-loop Inv-loop2 μ-loop2
-array-write-rest c = room (c .before .before .before .before .before .before .before .before .before)
+array-read-source : tie.Need-array-read-source Inv-loop2 μ-loop2 Inv-loop μ-loop
+array-read-source c = omega (arith, one-of-64 c, few c, c .loop2-test .taken)
 
-add-consumer : tie.Need-add-consumer Inv-loop μ-loop Inv-loop2 μ-loop2
-add-consumer c = search needs
+cast-source : tie.Need-cast-source Inv-loop2 μ-loop2 Inv-loop μ-loop
+cast-source c = search needs
 
-loop-less : tie.Need-loop-less Inv-loop μ-loop Inv-loop2 μ-loop2
-loop-less c = search needs
+sub-producer : tie.Need-sub-producer Inv-loop2 μ-loop2 Inv-loop μ-loop
+sub-producer c = pair c .source-least
 
-loop-again : tie.Need-loop-again Inv-loop μ-loop Inv-loop2 μ-loop2
-loop-again c =
-    let i = c .before .before .before .before .before .before .before .before .before in
-    let inv = i .before .loop .inv in
-    served-next _ _ _ _ _ (λ k h. count-most (pre-of i .0) k h) inv (i .loop-test .taken) (inv .shares-size ∙ pre-of i .2) (room i) (ready i)
-    (c .before .before .before .turn .ensures)
+mul-share-of : tie.Need-mul-share-of Inv-loop2 μ-loop2 Inv-loop μ-loop
+mul-share-of c = omega (arith, one-of-64 c, few c, c .loop2-test .taken)
 
-loop2-holds : tie.Need-loop2-holds Inv-loop μ-loop Inv-loop2 μ-loop2
-loop2-holds c = search needs
+array-read-share-of : tie.Need-array-read-share-of Inv-loop2 μ-loop2 Inv-loop μ-loop
+array-read-share-of c = omega (arith, one-of-64 c, few c, c .loop2-test .taken)
 
-mul-rest-2 : tie.Need-mul-rest-2 Inv-loop μ-loop Inv-loop2 μ-loop2
-mul-rest-2 c = omega (arith, few-producers (c .before .before), c .loop2-test .taken)
+cast-share-of : tie.Need-cast-share-of Inv-loop2 μ-loop2 Inv-loop μ-loop
+cast-share-of c = search needs
 
-array-read-rest : tie.Need-array-read-rest Inv-loop μ-loop Inv-loop2 μ-loop2
-array-read-rest c = omega (arith, few-producers (c .before .before), c .loop2-test .taken)
+mul-share-of-2 : tie.Need-mul-share-of-2 Inv-loop2 μ-loop2 Inv-loop μ-loop
+mul-share-of-2 c = omega (arith, producer-of-64 c)
 
-mul-rest-3 : tie.Need-mul-rest-3 Inv-loop μ-loop Inv-loop2 μ-loop2
-mul-rest-3 c = omega (arith, few-producers (c .before .before), c .loop2-test .taken)
+array-read-share-of-2 : tie.Need-array-read-share-of-2 Inv-loop2 μ-loop2 Inv-loop μ-loop
+array-read-share-of-2 c = producer-of-64 c
 
-array-read-rest-2 : tie.Need-array-read-rest-2 Inv-loop μ-loop Inv-loop2 μ-loop2
-array-read-rest-2 c = omega (arith, few-producers (c .before .before), c .loop2-test .taken)
+share-of-requires : tie.Need-share-of-requires Inv-loop2 μ-loop2 Inv-loop μ-loop
+share-of-requires c κs = (pair c .key-most, supply-most c)
 
-sub-rest : tie.Need-sub-rest Inv-loop μ-loop Inv-loop2 μ-loop2
-sub-rest c = taken-within (c .before .before .before .before .before .before .before .before .pre .0) _ (all-served (c .before .before)) _ (c .loop2-test .taken)
+sub-withdrawal : tie.Need-sub-withdrawal Inv-loop2 μ-loop2 Inv-loop μ-loop
+sub-withdrawal c = omega (arith, c .share-of .ensures)
 
-mul-rest-4 : tie.Need-mul-rest-4 Inv-loop μ-loop Inv-loop2 μ-loop2
-mul-rest-4 c = omega (arith, few-producers (c .before .before), c .loop2-test .taken)
+mul-left : tie.Need-mul-left Inv-loop2 μ-loop2 Inv-loop μ-loop
+mul-left c = omega (arith, producer-of-64 (c .before))
 
-array-write-rest-2 : tie.Need-array-write-rest-2 Inv-loop μ-loop Inv-loop2 μ-loop2
-array-write-rest-2 c = omega (arith, few-producers (c .before .before), c .loop2-test .taken)
+array-read-left : tie.Need-array-read-left Inv-loop2 μ-loop2 Inv-loop μ-loop
+array-read-left c = producer-of-64 (c .before)
 
-add-producer : tie.Need-add-producer Inv-loop μ-loop Inv-loop2 μ-loop2
-add-producer c = search needs
+sub-left : tie.Need-sub-left Inv-loop2 μ-loop2 Inv-loop μ-loop
+sub-left c = share-fits c
 
-loop2-less : tie.Need-loop2-less Inv-loop μ-loop Inv-loop2 μ-loop2
+mul-left-2 : tie.Need-mul-left-2 Inv-loop2 μ-loop2 Inv-loop μ-loop
+mul-left-2 c = omega (arith, producer-of-64 (c .before))
+
+array-write-left : tie.Need-array-write-left Inv-loop2 μ-loop2 Inv-loop μ-loop
+array-write-left c = producer-of-64 (c .before)
+
+mul-shares : tie.Need-mul-shares Inv-loop2 μ-loop2 Inv-loop μ-loop
+mul-shares c = omega (arith, one-of-64 (c .before), few (c .before), c .before .loop2-test .taken)
+
+slice-read-shares : tie.Need-slice-read-shares Inv-loop2 μ-loop2 Inv-loop μ-loop
+slice-read-shares c = omega (arith, one-of-64 (c .before .before), few (c .before .before), c .before .before .loop2-test .taken, sums-size (c .before .before))
+
+add-shares : tie.Need-add-shares Inv-loop2 μ-loop2 Inv-loop μ-loop
+add-shares c =
+    let i = c .before .before in
+    let k = i .before .loop2 .priority in
+    let now = i .before .loop2 .inv .3 .waiting k (omega arith) (omega (arith, few i, i .loop2-test .taken)) in
+    let then = i .before .before .before .loop .inv .2 .waiting (consumer-of i) k (omega arith) (omega (arith, few i, i .loop2-test .taken)) in
+    omega (arith, now, then, asked i .3 (consumer-of i) k (i .before .before .loop-test .taken) (i .loop2-test .taken), share-most (c .before))
+
+mul-shares-2 : tie.Need-mul-shares-2 Inv-loop2 μ-loop2 Inv-loop μ-loop
+mul-shares-2 c = omega (arith, one-of-64 (c .before .before), few (c .before .before), c .before .before .loop2-test .taken)
+
+slice-write-shares : tie.Need-slice-write-shares Inv-loop2 μ-loop2 Inv-loop μ-loop
+slice-write-shares c = omega (arith, one-of-64 (c .before .before), few (c .before .before), c .before .before .loop2-test .taken, sums-size (c .before .before))
+
+add-priority : tie.Need-add-priority Inv-loop2 μ-loop2 Inv-loop μ-loop
+add-priority c = omega (arith, few (c .before .before), c .before .before .loop2-test .taken)
+
+loop2-less : tie.Need-loop2-less Inv-loop2 μ-loop2 Inv-loop μ-loop
 loop2-less c = search needs
 
-loop2-again : tie.Need-loop2-again Inv-loop μ-loop Inv-loop2 μ-loop2
+loop2-again : tie.Need-loop2-again Inv-loop2 μ-loop2 Inv-loop μ-loop
 loop2-again c =
-    let l = c .before .loop2 in
-    let within : l .producer < length (l .rest) = omega (arith, few-producers (c .before .before), l .inv .1, c .loop2-test .taken) in (
-      omega arith,
-      simp length-set (l .inv .1),
-      below-more _ (l .producer) (λ p h. getD-set-other (l .rest) (l .producer) p _ 0 (omega arith) ∙ l .inv .2 p h) (getD-set-same (l .rest) (l .producer) _ 0 within),
-      λ j h. getD-set-other (l .rest) (l .producer) j _ 0 (omega (arith, c .loop2-test .taken)) ∙ l .inv .3 j h,
+    let i = c .before .before in
+    let before = i .before .before .before .loop .inv .2 .size ∙ asked i .2 in (
+      omega (arith, i .loop2-test .taken),
+      left-here _ _ _ (i .before .loop2 .inv .1) (share-is (c .before)),
+      fallen-next _ _ _ _ _ _ (i .before .loop2 .inv .2) (step i) (c .before .share-of .result) (share-is (c .before)),
+      own-next _ _ _ _ _ _ (i .before .loop2 .inv .3) before (omega (arith, one-of-64 i)) (omega (arith, few i, i .loop2-test .taken)) (c .before .share-of .result)
+          (share-is (c .before)),
     )
 
-same-length : tie.Need-same-length Inv-loop μ-loop Inv-loop2 μ-loop2
+mul-left-3 : tie.Need-mul-left-3 Inv-loop2 μ-loop2 Inv-loop μ-loop
+mul-left-3 c = omega (arith, few-points (c .before .before .before .before .before .before .before .before .pre .0), c .before .before .loop-test .taken)
+
+array-write-left-2 : tie.Need-array-write-left-2 Inv-loop2 μ-loop2 Inv-loop μ-loop
+array-write-left-2 c = omega (arith, few-points (c .before .before .before .before .before .before .before .before .pre .0), c .before .before .loop-test .taken)
+
+add-consumer : tie.Need-add-consumer Inv-loop2 μ-loop2 Inv-loop μ-loop
+add-consumer c = search needs
+
+loop-less : tie.Need-loop-less Inv-loop2 μ-loop2 Inv-loop μ-loop
+loop-less c = search needs
+
+loop-again : tie.Need-loop-again Inv-loop2 μ-loop2 Inv-loop μ-loop
+loop-again c =
+    let l = c .before .loop2 in
+    let o = c .before .before in
+    let r = o .before .before .before .before .before .before .args .registration in
+    let p = o .before .before .before .before .before .before .pre in
+    let last = le-antisymm (l .inv .0) (c .loop2-test .left) in (
+      omega (arith, o .loop-test .taken),
+      fallen-same _ _ _ _ _ _ (fallen-turn _ _ _ _ _ _ (l .inv .2) (l .withdrawal) (omega (arith, few-points (p .0), o .loop-test .taken)) (l .inv .1 ∙ rw last))
+          (λ k h. rw last (passed-turn (r .counts) (o .before .loop .consumer) k)),
+      given-next _ _ _ _ _ _ (λ k h. count-most (p .0) k (omega (arith, o .loop-test .taken))) (o .before .loop .inv .2) (l .inv .3) (c .loop2-test .left),
+    )
+
+same-length : tie.Need-same-length Inv-loop2 μ-loop2 Inv-loop μ-loop
 same-length c = search needs
 
-returns : tie.Need-returns Inv-loop μ-loop Inv-loop2 μ-loop2
+returns : tie.Need-returns Inv-loop2 μ-loop2 Inv-loop μ-loop
 returns c =
-    let l = c .before .loop2 in
-    let past = c .before .before in
-    let e = le-antisymm (l .inv .0) (c .loop2-test .left) in
-    round-made (past .before .before .before .before .before .before .pre .0) _ (all-served past) (l .rest) (λ p h. l .inv .2 p (omega (arith, e))) (l .inv .3)
+    let l = c .before .loop in
+    let p = c .before .before .before .before .before .before .pre in
+    let last = le-antisymm (l .inv .0) (c .loop-test .left) in
+    round-made (p .0) _ (fallen-all _ _ _ _ _ _ (l .inv .1) last) (given-all _ _ _ _ _ _ (l .inv .2) last)
 
 pub make-round-spec : {M : Type 1} → statement M
 make-round-spec =
     tie.close
     (tie.spec
-    Inv-loop
-    μ-loop
     Inv-loop2
     μ-loop2
+    Inv-loop
+    μ-loop
     loop-holds
     add-point
     array-read-count
     cast-count
-    mul-turn
-    array-read-turn
-    slice-aggregate-turn
-    turn-requires
-    mul-rest
-    array-write-rest
+    mul-withdrawal
+    array-read-withdrawal
+    loop2-holds
+    mul-place
+    add-place
+    array-read-source
+    cast-source
+    sub-producer
+    mul-share-of
+    array-read-share-of
+    cast-share-of
+    mul-share-of-2
+    array-read-share-of-2
+    share-of-requires
+    sub-withdrawal
+    mul-left
+    array-read-left
+    sub-left
+    mul-left-2
+    array-write-left
+    mul-shares
+    slice-read-shares
+    add-shares
+    mul-shares-2
+    slice-write-shares
+    add-priority
+    loop2-less
+    loop2-again
+    mul-left-3
+    array-write-left-2
     add-consumer
     loop-less
     loop-again
-    loop2-holds
-    mul-rest-2
-    array-read-rest
-    mul-rest-3
-    array-read-rest-2
-    sub-rest
-    mul-rest-4
-    array-write-rest-2
-    add-producer
-    loop2-less
-    loop2-again
     same-length
     returns)
