@@ -13,7 +13,7 @@ use Rattle.lists.specs.Below.{every, sumBelow, differ}
 use Rattle.registration.specs.Code.{isCode, weighted}
 use Rattle.registration.specs.Rules.{pairsRight}
 use Rattle.registration.specs.Damage.{isDamaged}
-use Rattle.allocation.specs.Rounds.{roundsOf, leftAt, roundOf, afterRounds, received, ofConsumer, ofProducer}
+use Rattle.allocation.specs.Rounds.{withdrawalAt, roundsOf, leftAt, offerIn, shareIn, roundOf, afterRounds, received, ofConsumer, ofProducer}
 use Rattle.allocation.specs.Result.{startOf, pairsOf, roundsFor}
 use Rattle.allocation.specs.Mean.{sumOf, nearest, meanOf}
 
@@ -100,14 +100,17 @@ alike producers consumers key =
     group 1 (table (λ i. coded (85918240022010000 + i)) producers) (table (λ i. coded (85918240022020000 + i)) consumers)
     (replicate consumers ((1 by key) ∷ []))
 
--- what a row shows; the group, how many rounds it has, and the magnitudes of its points; after how many rounds; then the shares, the
--- remaining withdrawals and supplies, and the sums for each consumer and from each producer
+-- what a row shows; the group, how many rounds it has, and the magnitudes of its points; after how many rounds. Then, for each pair, its
+-- share in the last of them, what its consumer has left after it, and its shares in all of them; the remaining withdrawals and supplies; and
+-- the sums for each consumer and from each producer
 record Row : Type 0 where
   shows : String
   registration : Registration
   rounds : ℕ
   magnitudes : List ℕ
   after : ℕ
+  last : List ℕ
+  left : List ℕ
   shares : List ℕ
   withdrawals : List ℕ
   supplies : List ℕ
@@ -115,14 +118,16 @@ record Row : Type 0 where
   produced : List ℕ
 
 -- a row, its parts in this order
-abbrev row : String → Registration → ℕ → List ℕ → ℕ → List ℕ → List ℕ → List ℕ → List ℕ → List ℕ → Row
-row shows registration rounds magnitudes after shares withdrawals supplies consumed produced =
+abbrev row : String → Registration → ℕ → List ℕ → ℕ → List ℕ → List ℕ → List ℕ → List ℕ → List ℕ → List ℕ → List ℕ → Row
+row shows registration rounds magnitudes after last left shares withdrawals supplies consumed produced =
     record {
       shows = shows;
       registration = registration;
       rounds = rounds;
       magnitudes = magnitudes;
       after = after;
+      last = last;
+      left = left;
       shares = shares;
       withdrawals = withdrawals;
       supplies = supplies;
@@ -130,36 +135,49 @@ row shows registration rounds magnitudes after shares withdrawals supplies consu
       produced = produced;
     }
 
+-- the magnitudes of the examples' points
+unfoldable cottage : List ℕ
+cottage = 751 ∷ 37 ∷ 1221 ∷ []
+
+unfoldable municipality : List ℕ
+municipality = 220 ∷ 13245 ∷ 337 ∷ 120 ∷ 3687 ∷ []
+
 unfoldable rows : List Row
 rows =
-    row "example 1" example1 1 (951 ∷ 422 ∷ []) 1 (422 ∷ []) (0 ∷ []) (529 ∷ []) (422 ∷ []) (422 ∷ []) ∷
-    row "example 2, round 1" example2 2 (751 ∷ 37 ∷ 1221 ∷ []) 1 (37 ∷ 450 ∷ []) (0 ∷ 771 ∷ []) (264 ∷ []) (37 ∷ 450 ∷ []) (487 ∷ []) ∷
-    row "example 2" example2 2 (751 ∷ 37 ∷ 1221 ∷ []) 2 (37 ∷ 608 ∷ []) (0 ∷ 613 ∷ []) (106 ∷ []) (37 ∷ 608 ∷ []) (645 ∷ []) ∷
-    row "example 3" example3 1 (1742 ∷ 45 ∷ 233 ∷ 425 ∷ 1520 ∷ []) 1 (45 ∷ 233 ∷ 425 ∷ 435 ∷ []) (0 ∷ 0 ∷ 0 ∷ 1085 ∷ []) (604 ∷ [])
-    (45 ∷ 233 ∷ 425 ∷ 435 ∷ []) (1138 ∷ []) ∷
-    row "example 4, round 1" example4 3 (220 ∷ 13245 ∷ 337 ∷ 120 ∷ 3687 ∷ []) 1 (66 ∷ 271 ∷ 120 ∷ 0 ∷ 1324 ∷ []) (0 ∷ 0 ∷ 2363 ∷ [])
-    (154 ∷ 11530 ∷ []) (337 ∷ 120 ∷ 1324 ∷ []) (66 ∷ 1715 ∷ []) ∷
-    row "example 4, round 2" example4 3 (220 ∷ 13245 ∷ 337 ∷ 120 ∷ 3687 ∷ []) 2 (66 ∷ 271 ∷ 120 ∷ 0 ∷ 2477 ∷ []) (0 ∷ 0 ∷ 1210 ∷ [])
-    (154 ∷ 10377 ∷ []) (337 ∷ 120 ∷ 2477 ∷ []) (66 ∷ 2868 ∷ []) ∷
-    row "example 4" example4 3 (220 ∷ 13245 ∷ 337 ∷ 120 ∷ 3687 ∷ []) 3 (66 ∷ 271 ∷ 120 ∷ 0 ∷ 3514 ∷ []) (0 ∷ 0 ∷ 173 ∷ [])
-    (154 ∷ 9340 ∷ []) (337 ∷ 120 ∷ 3514 ∷ []) (66 ∷ 3905 ∷ []) ∷
-    row "LIST" list 2 (1001 ∷ 100 ∷ 900 ∷ []) 2 (100 ∷ 780 ∷ []) (0 ∷ 120 ∷ []) (121 ∷ []) (100 ∷ 780 ∷ []) (880 ∷ []) ∷
-    row "50 points iterate" (alike 48 2 5000) 2 ((1000 ∷ replicate 47 0) ++ (1000 ∷ 0 ∷ [])) 2 (750 ∷ 0 ∷ []) (250 ∷ 0 ∷ [])
-    (250 ∷ replicate 47 0) (750 ∷ 0 ∷ []) (750 ∷ replicate 47 0) ∷
+    row "example 1" example1 1 (951 ∷ 422 ∷ []) 1 (422 ∷ []) (0 ∷ []) (422 ∷ []) (0 ∷ []) (529 ∷ []) (422 ∷ []) (422 ∷ []) ∷
+    row "example 2, round 1" example2 2 cottage 1 (37 ∷ 450 ∷ []) (0 ∷ 771 ∷ []) (37 ∷ 450 ∷ []) (0 ∷ 771 ∷ []) (264 ∷ []) (37 ∷ 450 ∷ []) (487 ∷ []) ∷
+    row "example 2, round 2" example2 2 cottage 2 (0 ∷ 158 ∷ []) (0 ∷ 613 ∷ []) (37 ∷ 608 ∷ []) (0 ∷ 613 ∷ []) (106 ∷ []) (37 ∷ 608 ∷ []) (645 ∷ []) ∷
+    row "example 3" example3 1 (1742 ∷ 45 ∷ 233 ∷ 425 ∷ 1520 ∷ []) 1 (45 ∷ 233 ∷ 425 ∷ 435 ∷ []) (0 ∷ 0 ∷ 0 ∷ 1085 ∷ [])
+    (45 ∷ 233 ∷ 425 ∷ 435 ∷ []) (0 ∷ 0 ∷ 0 ∷ 1085 ∷ []) (604 ∷ []) (45 ∷ 233 ∷ 425 ∷ 435 ∷ []) (1138 ∷ []) ∷
+    row "example 4, round 1" example4 3 municipality 1 (66 ∷ 271 ∷ 120 ∷ 0 ∷ 1324 ∷ []) (271 ∷ 0 ∷ 0 ∷ 0 ∷ 2363 ∷ [])
+    (66 ∷ 271 ∷ 120 ∷ 0 ∷ 1324 ∷ []) (0 ∷ 0 ∷ 2363 ∷ []) (154 ∷ 11530 ∷ []) (337 ∷ 120 ∷ 1324 ∷ []) (66 ∷ 1715 ∷ []) ∷
+    row "example 4, round 2" example4 3 municipality 2 (0 ∷ 0 ∷ 0 ∷ 0 ∷ 1153 ∷ []) (0 ∷ 0 ∷ 0 ∷ 0 ∷ 1210 ∷ [])
+    (66 ∷ 271 ∷ 120 ∷ 0 ∷ 2477 ∷ []) (0 ∷ 0 ∷ 1210 ∷ []) (154 ∷ 10377 ∷ []) (337 ∷ 120 ∷ 2477 ∷ []) (66 ∷ 2868 ∷ []) ∷
+    row "example 4, round 3" example4 3 municipality 3 (0 ∷ 0 ∷ 0 ∷ 0 ∷ 1037 ∷ []) (0 ∷ 0 ∷ 0 ∷ 0 ∷ 173 ∷ [])
+    (66 ∷ 271 ∷ 120 ∷ 0 ∷ 3514 ∷ []) (0 ∷ 0 ∷ 173 ∷ []) (154 ∷ 9340 ∷ []) (337 ∷ 120 ∷ 3514 ∷ []) (66 ∷ 3905 ∷ []) ∷
+    row "LIST" list 2 (1001 ∷ 100 ∷ 900 ∷ []) 2 (0 ∷ 180 ∷ []) (0 ∷ 120 ∷ []) (100 ∷ 780 ∷ []) (0 ∷ 120 ∷ []) (121 ∷ []) (100 ∷ 780 ∷ []) (880 ∷ []) ∷
+    row "50 points iterate" (alike 48 2 5000) 2 ((1000 ∷ replicate 47 0) ++ (1000 ∷ 0 ∷ [])) 2 (250 ∷ 0 ∷ []) (250 ∷ 0 ∷ [])
+    (750 ∷ 0 ∷ []) (250 ∷ 0 ∷ []) (250 ∷ replicate 47 0) (750 ∷ 0 ∷ []) (750 ∷ replicate 47 0) ∷
     row "51 points do not" (alike 49 2 5000) 1 ((1000 ∷ replicate 48 0) ++ (1000 ∷ 0 ∷ [])) 1 (500 ∷ 0 ∷ []) (500 ∷ 0 ∷ [])
-    (500 ∷ replicate 48 0) (500 ∷ 0 ∷ []) (500 ∷ replicate 48 0) ∷
-    row "six consumers have five rounds" (alike 1 6 1000) 5 (1000 ∷ 1000 ∷ replicate 5 0) 5 (408 ∷ replicate 5 0) (592 ∷ replicate 5 0)
-    (592 ∷ []) (408 ∷ replicate 5 0) (408 ∷ []) ∷ []
+    (500 ∷ 0 ∷ []) (500 ∷ 0 ∷ []) (500 ∷ replicate 48 0) (500 ∷ 0 ∷ []) (500 ∷ replicate 48 0) ∷
+    row "six consumers have five rounds" (alike 1 6 1000) 5 (1000 ∷ 1000 ∷ replicate 5 0) 5 (65 ∷ replicate 5 0) (592 ∷ replicate 5 0)
+    (408 ∷ replicate 5 0) (592 ∷ replicate 5 0) (592 ∷ []) (408 ∷ replicate 5 0) (408 ∷ []) ∷ []
 
 -- the group has its rounds, and its numbers are the row's
 unfoldable right : Row → Bool
 right w =
     let r = w .registration in
     let start = startOf r (λ point. getD (w .magnitudes) point 0) in
-    let left = afterRounds r start (w .after) in
+    let before = afterRounds r start (w .after - 1) in
+    let remaining = afterRounds r start (w .after) in
     let share = received r start (w .after) in
-    eqb (roundsFor r) (w .rounds) && same (pairsOf r share) (w .shares) && same (left .withdrawals) (w .withdrawals)
-    && same (left .supplies) (w .supplies) && same (table (ofConsumer r share) (r .consumers)) (w .consumed)
+    eqb (roundsFor r) (w .rounds)
+    && same (pairsOf r (shareIn r before)) (w .last)
+    && same (pairsOf r (λ consumer priority. leftAt (offerIn r before consumer) (withdrawalAt before consumer) (priority + 1))) (w .left)
+    && same (pairsOf r share) (w .shares)
+    && same (remaining .withdrawals) (w .withdrawals)
+    && same (remaining .supplies) (w .supplies)
+    && same (table (ofConsumer r share) (r .consumers)) (w .consumed)
     && same (table (ofProducer r share) (r .producers)) (w .produced)
 
 -- the groups of the rows
@@ -196,5 +214,5 @@ all test (w ∷ ws) = test w && all test ws
 
 -- every row is right, and its group undamaged
 cases : all undamaged groups && all right rows && all meant means ≡ true
-unfolding all right groups rows means same padded places group example1 example2 example3 example4 list coded alike joined isDamaged every sumBelow differ pairsRight isCode weighted roundsOf leftAt roundOf afterRounds sumOf nearest
+unfolding all right groups rows means same cottage municipality padded places group example1 example2 example3 example4 list coded alike joined isDamaged every sumBelow differ pairsRight isCode weighted roundsOf leftAt roundOf afterRounds sumOf nearest
 cases = refl

@@ -3,7 +3,7 @@ pub mod Turns
 pub mod Shareable
 pub mod Consumers
 pub mod Producers
-pub mod Bridge
+pub mod ArrayRound
 pub mod Laws
 pub mod Rounded
 pub mod Cases

@@ -13,7 +13,7 @@ use Rattle.allocation.specs.Rounds.{leftAt}
 use Rattle.allocation.specs.Working.{PairsWithin}
 use Rattle.allocation.proofs.Shareable.{few-points, count-most, pair-of}
 use Rattle.allocation.proofs.Turns.{passedAt, passed-none, passed-here, passed-other, passed-most, passed-turn, offer-small, shareFor, Fallen, fallen-same, fallen-none, fallen-turn, fallen-all, left-none, share-here, left-here, offerFor, Step, fallen-next, share-within, Given, given-none, given-next, given-all, Own, own-none, own-next}
-use Rattle.allocation.proofs.Bridge.{taken-within, round-made}
+use Rattle.allocation.proofs.ArrayRound.{taken-within, round-made}
 use Rattle.allocation.proofs.make_round.Statement.{statement}
 use Rattle.allocation.proofs.make_round.Tie as tie
 
