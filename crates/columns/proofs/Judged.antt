@@ -10,7 +10,7 @@ use lib.ListN.{length, getD}
 use Rattle.columns.specs.declared.Number.the-variants.{Bad}
 use Rattle.columns.specs.declared.Signed.the-variants.{Bad as BadSigned}
 use Rattle.columns.specs.Column.{columnOf, valueFrom, sameBytes, hasMinus, numberIf, numberOf, signedIf, signedOf}
-use Rattle.columns.proofs.Same.{both}
+use Rattle.lists.proofs.Below.{both}
 use Rattle.columns.proofs.Values.{value-room, most}
 
 abbrev pub begins : List ℕ → Bool

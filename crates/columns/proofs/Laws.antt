@@ -17,7 +17,8 @@ use Rattle.columns.specs.declared.Signed.the-variants.{Is as IsSigned}
 use Rattle.columns.specs.Column.{columnOf, signedColumnOf, valueFrom, isColumn, hasMinus, numberIf, numberOf, signedIf, signedOf}
 use Rattle.columns.specs.Fields.{total, columnsOf, withFirst, numbersIn}
 use Rattle.columns.specs.Laws.{NumberReadBack, NumberWrittenAgain, SignedReadBack, SignedWrittenAgain, FieldsReadBack, FieldsWrittenAgain, digits}
-use Rattle.columns.proofs.Same.{both, same-self, same-eq}
+use Rattle.lists.proofs.Below.{both}
+use Rattle.columns.proofs.Same.{same-self, same-eq}
 use Rattle.columns.proofs.Values.{value-column, value-room, most}
 use Rattle.columns.proofs.Front.{space-number, space-negative, room-negative, two-places}
 use Rattle.columns.proofs.Minus.{no-minus, one-minus}

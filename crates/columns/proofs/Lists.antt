@@ -10,7 +10,7 @@ use lib.ListN.{length, length-append}
 use Rattle.columns.specs.Fields.{total, columnsOf, fitting}
 use Rattle.columns.proofs.Clauses.{fitting-cons}
 use Rattle.columns.proofs.Fill.{length-column}
-use Rattle.columns.proofs.Same.{both}
+use Rattle.lists.proofs.Below.{both}
 
 -- one more number that fits, and what that it fits says
 pub fits-more : (w n : ℕ) (ws ns : List ℕ) → 2 ≤ w → w ≤ 19 → n < 10 ^ (w - 1) → fitting ws ns ≡ true → fitting (w ∷ ws) (n ∷ ns) ≡ true

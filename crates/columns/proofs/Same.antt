@@ -9,13 +9,9 @@ use borrow.Author.Tests.{eq-eqb, eqb-true}
 use lib.Dec.{eqb}
 use lib.ListN.{length, getD, take}
 use lib.Seq.{take-suc, take-all, length-take-le}
+use Rattle.lists.proofs.Below.{both}
 use Rattle.columns.specs.Column.{byteBefore, leadOf, columnOf, sameBytes}
 use Rattle.columns.proofs.Fill.{length-lead}
-
--- both parts of a test that holds
-pub both : (a b : Bool) → (a && b) ≡ true → (a ≡ true) × (b ≡ true)
-both true b e = (refl, e)
-both false b e = let z : false ≡ true = e in (z, cc)
 
 pub same-self : (xs : List ℕ) → sameBytes xs xs ≡ true
 unfolding sameBytes

@@ -13,7 +13,7 @@ use lib.Seq.{getD-at, split-at}
 use Rattle.columns.specs.Fields.{total, columnsOf, numbersIn, fitting, nth, isNone}
 use Rattle.columns.specs.Line.{firstLine, afterLine}
 use Rattle.columns.proofs.Laws.{plain-columns, first-plain, after-plain, fields-read-back, fields-written-again, lines-join, fitting-length, length-columns}
-use Rattle.columns.proofs.Same.{both}
+use Rattle.lists.proofs.Below.{both}
 use Rattle.lines.specs.Lines.{lineOf, lineIn}
 use Rattle.lines.specs.Laws.{LineReadBack, LineWrittenAgain, LineFirst}
 

@@ -14,7 +14,7 @@ use Rattle.columns.specs.declared.Number.{Number}
 use Rattle.columns.specs.Column.{numberOf}
 use Rattle.columns.specs.Fields.{total, withFirst, numbersIn}
 use Rattle.columns.proofs.Laws.{numbersIn-nil, numbersIn-cons, total-nil, total-cons}
-use Rattle.columns.proofs.Same.{both}
+use Rattle.lists.proofs.Below.{both}
 use Rattle.lines.specs.Lines.{isFramed, lineIn}
 
 -- a part from a place up to the end

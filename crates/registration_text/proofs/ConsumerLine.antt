@@ -13,7 +13,7 @@ use lib.Seq.{getD-at, getD-append-add, drop-at, take-add}
 use Rattle.columns.specs.Fields.{total, columnsOf, numbersIn, fitting, nth, isNone}
 use Rattle.columns.specs.Line.{firstLine, afterLine}
 use Rattle.columns.proofs.Laws.{fields-read-back, fields-written-again, fitting-length, length-columns, columns-append}
-use Rattle.columns.proofs.Same.{both}
+use Rattle.lists.proofs.Below.{both}
 use Rattle.lines.specs.Lines.{lineOf}
 use Rattle.lines.proofs.Laws.{line-first, begins, when-some, closed, listed}
 use Rattle.registration_text.specs.Lines.{letterO, widthsO, widthsOfPairs, pairsFrom}

@@ -8,7 +8,7 @@ use native.Mathlib.Nat.{div-add-mod, mod-lt}
 use borrow.Author.Tests.{lt-ltb, le-ltb, leb-true, le-leb, eqb-true, eq-eqb}
 use lib.Dec.{leb, ltb, eqb}
 use lib.ListN.{getD}
-use Rattle.columns.proofs.Same.{both}
+use Rattle.lists.proofs.Below.{both}
 use Rattle.registration.specs.declared.Registration.{Registration}
 use Rattle.lists.specs.Below.{every}
 use Rattle.registration.specs.Code.{isCode}

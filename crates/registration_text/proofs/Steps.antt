@@ -16,7 +16,7 @@ use Rattle.answers.specs.Order.{refuse_if_else_}
 use Rattle.answers.proofs.Refusals.{passed}
 use Rattle.columns.specs.Fields.{fitting, nth, isNone}
 use Rattle.columns.specs.Line.{firstLine, afterLine}
-use Rattle.columns.proofs.Same.{both}
+use Rattle.lists.proofs.Below.{both}
 use Rattle.lines.specs.Lines.{lineOf, lineIn}
 use Rattle.lines.proofs.Laws.{begins-read, begins-written}
 use Rattle.registration.specs.declared.Registration.{Registration}
