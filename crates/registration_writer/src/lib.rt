@@ -11,7 +11,7 @@ mod letters;
 pub fn write(registration: Registration, out: &mut [u8]) -> Written
     ensures { λ r. ⌜ Wrote registration (now (out .entry)) (now (out .exit)) r ⌝ }
 {
-    if registration.damaged() {
+    if registration_damage::damaged(registration) {
         return letters::refused(Refusal::Damaged);
     }
     let size = letters::size(registration);
