@@ -1,12 +1,9 @@
 -- What users of the published method rely on: nothing is lost, no share is too great, results have their size, means are nearest. Assumes nothing.
 use Prim.Native.Nat.{ℕ, zero, suc, _+_, _*_}
 use mathlib.Core.Path.{_≡_, _∙_}
-use mathlib.Core.Bool.{false}
 use native.Mathlib.Nat.{mul-div-le, lt-mul-div-succ}
 use native.Mathlib.Omega.{arith}
-use lib.Dec.{eqb}
 use lib.ListN.{length, length-append}
-use borrow.Author.Tests.{ne-eqb}
 use Rattle.lists.proofs.TableLaws.{length-table, table-at, length-joined}
 use Rattle.registration.specs.declared.Registration.{Registration}
 use Rattle.lists.specs.Below.{sumBelow}
@@ -14,10 +11,10 @@ use Rattle.registration.specs.Rules.{countAt}
 use Rattle.registration.proofs.Damage.{undamaged-parts}
 use Rattle.allocation.specs.Rounds.{shareIn, roundOf, afterRounds, received}
 use Rattle.allocation.specs.Result.{startOf, pairsOf, roundsFor, allocationOf}
-use Rattle.allocation.specs.Mean.{nearest}
 use Rattle.allocation.specs.Laws.{UndamagedIsShareable, RoundWithinSupply, SupplyAddsUp, WithdrawalAddsUp, WithinWithdrawal}
 use Rattle.allocation.specs.Laws.{AllocationKeepsSupplies, AllocationKeepsWithdrawals, OneRoundWithinKey, ResultSize, MeanIsNearest}
 use Rattle.lists.proofs.Sums.{sum-add}
+use Rattle.allocation.proofs.Nearest.{nearest-some}
 use Rattle.allocation.proofs.Consumers.{round-keeps-withdrawal}
 use Rattle.allocation.proofs.Producers.{of-producer-add, taken-within-supply, round-keeps-supply}
 
@@ -82,7 +79,5 @@ result-size r magnitude =
     rw (length-append, length-append) (omega (arith, pairs, remaining-lengths r magnitude (roundsFor r)))
 
 pub mean-is-nearest : MeanIsNearest
-unfolding nearest
 mean-is-nearest sum count h =
-    let counted : eqb count 0 ≡ false = ne-eqb count 0 (λ e. omega arith) in
-    rw counted (omega (arith, mul-div-le (2 * sum + count) (2 * count), lt-mul-div-succ (2 * sum + count) {b = 2 * count} (omega arith)))
+    rw (nearest-some sum count h) (omega (arith, mul-div-le (2 * sum + count) (2 * count), lt-mul-div-succ (2 * sum + count) {b = 2 * count} (omega arith)))

@@ -11,7 +11,8 @@ doubled : (q c : ℕ) → q * (2 * c) ≡ 2 * (c * q)
 doubled q c = mul-left-comm q 2 c ∙ rw (mul-comm q c)
 
 module _ (sum count : ℕ) (some : 1 ≤ count) where
-  nearest-some : nearest sum count ≡ (2 * sum + count) / (2 * count)
+  -- with something to divide by
+  pub nearest-some : nearest sum count ≡ (2 * sum + count) / (2 * count)
   unfolding nearest
   nearest-some = rw (ne-eqb count 0 (omega arith))
 

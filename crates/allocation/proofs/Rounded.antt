@@ -145,4 +145,4 @@ module _ {r : Registration} (s : Shareable r) {most round : ℕ} {magnitudes lef
         let consumers = length-table (λ i. getD left (r .producers + i) 0) (r .consumers) in
         let same : length first ≡ length before = put-length (omega (arith, pairs)) p in
         let whole = put-on (omega (arith, p .end, pairs)) p (put-on (omega (arith, p .end, q .end, pairs, consumers, same)) q w) in
-        record { rounds = e; result = whole .buffer ∙ rw numbers-last }
+        record { rounds = e; result = whole .list ∙ rw numbers-last }

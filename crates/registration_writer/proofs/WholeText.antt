@@ -64,4 +64,4 @@ module _ (r : Registration) where
     pub accepted : {end : ℕ} {after : List ℕ} → isDamaged r ≡ false → length (textOf r) ≤ length before → Put 0 (textOf r) before after end
         → Wrote r before after (record { verdict = Accepted; bytes = end })
     unfolding verdictOfWriting placed
-    accepted d h p = by-verdict Accepted (search refusals) (rw (p .end, zero-add)) (p .buffer ∙ rw zero-add)
+    accepted d h p = by-verdict Accepted (search refusals) (rw (p .end, zero-add)) (p .list ∙ rw zero-add)

@@ -34,7 +34,7 @@ returns c =
     let a = c .before .before .before .before .before .args in
     let l : length (take (a .width) (drop (a .at) (a .out .now))) ≡ a .width = length-take-le _ _ (simp length-drop (omega arith)) in
     record {
-      buffer = rw (c .before .before .write-number .ensures, add-sub-cancel-left, l, drop-drop, length-column);
+      list = rw (c .before .before .write-number .ensures, add-sub-cancel-left, l, drop-drop, length-column);
       end = rw length-column;
     }
 
