@@ -1,16 +1,17 @@
--- What users of the published method rely on: nothing is lost, no share is too great, results have their size, means are nearest. Assumes nothing.
-use Prim.Native.Nat.{ℕ, zero, suc, _+_, _*_}
-use mathlib.Core.Path.{_≡_, _∙_}
+-- What users of the published method rely on: nothing is lost, no share is too great, results have their size, means are nearest, and
+-- equal magnitudes have equal results. Assumes nothing.
+use Prim.Native.Nat.{ℕ, zero, suc, _+_, _*_, _<_}
+use mathlib.Core.Path.{_≡_, ap, _∙_}
 use native.Mathlib.Nat.{mul-div-le, lt-mul-div-succ}
 use native.Mathlib.Omega.{arith}
 use lib.ListN.{length, length-append}
-use Rattle.lists.proofs.TableLaws.{length-table, table-at, length-joined}
+use Rattle.lists.proofs.TableLaws.{length-table, table-at, table-same, length-joined}
 use Rattle.registration.specs.declared.Registration.{Registration}
 use Rattle.lists.specs.Below.{sumBelow}
-use Rattle.registration.specs.Rules.{countAt}
+use Rattle.registration.specs.Rules.{points, countAt}
 use Rattle.registration.proofs.Damage.{undamaged-parts}
-use Rattle.allocation.specs.Rounds.{shareIn, roundOf, afterRounds, received}
-use Rattle.allocation.specs.Result.{startOf, pairsOf, roundsFor, allocationOf}
+use Rattle.allocation.specs.Rounds.{Remaining, shareIn, roundOf, afterRounds, received}
+use Rattle.allocation.specs.Result.{Allocation, startOf, pairsOf, roundsFor, allocationOf}
 use Rattle.allocation.specs.Laws.{UndamagedIsShareable, RoundWithinSupply, SupplyAddsUp, WithdrawalAddsUp, WithinWithdrawal}
 use Rattle.allocation.specs.Laws.{AllocationKeepsSupplies, AllocationKeepsWithdrawals, OneRoundWithinKey, ResultSize, MeanIsNearest}
 use Rattle.lists.proofs.Sums.{sum-add}
@@ -81,3 +82,18 @@ result-size r magnitude =
 pub mean-is-nearest : MeanIsNearest
 mean-is-nearest sum count h =
     rw (nearest-some sum count h) (omega (arith, mul-div-le (2 * sum + count) (2 * count), lt-mul-div-succ (2 * sum + count) {b = 2 * count} (omega arith)))
+
+-- the allocation rests on the magnitudes of the group's points alone
+pub allocation-same : (r : Registration) (f g : ℕ → ℕ) → ((point : ℕ) → point < points r → f point ≡ g point) → allocationOf r f ≡ allocationOf r g
+unfolding allocationOf
+allocation-same r f g same =
+    let withdrawals = table-same (λ c. f (r .producers + c)) (λ c. g (r .producers + c)) (r .consumers) (λ c h. same (r .producers + c) (omega arith)) in
+    let supplies = table-same f g (r .producers) (λ p h. same p (omega arith)) in
+    let start : startOf r f ≡ startOf r g = rw (withdrawals, supplies) in
+    ap (λ (start : Remaining). record {
+      shares = pairsOf r (received r start (roundsFor r));
+      withdrawals = afterRounds r start (roundsFor r) .withdrawals;
+      supplies = afterRounds r start (roundsFor r) .supplies;
+      rounds = roundsFor r;
+    })
+    start

@@ -9,7 +9,7 @@ use Rattle.calendar.specs.declared.Day.the-variants.{Is, Missing}
 use Rattle.calendar.specs.Dates.{isDate, dayIf, dayNumber, dayOf, yearOf, dateOf}
 use Rattle.calendar.specs.Quarters.{lastSunday, quartersOf, quarterExists}
 use Rattle.calendar.specs.Laws.{DayOfDate, DateOfDay, LastSundayOf, ShortDays, LongDays, OtherDays}
-use Rattle.calendar.proofs.Sequences.{by-test}
+use Rattle.lists.proofs.Cases.{by-test}
 use Rattle.calendar.proofs.Lengths.{month-bounds}
 use Rattle.calendar.proofs.Places.{Valid, written, written-parts, number-bound, number-date, in-year, day-valid, day-number, day-date, monthOf}
 use Rattle.calendar.proofs.Sundays.{last-sunday-is, is-last-sunday}

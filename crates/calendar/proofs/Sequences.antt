@@ -8,12 +8,8 @@ use native.Mathlib.Nat.{eq-or-lt-of-le, le-trans}
 use native.Mathlib.Numerals.{add-one}
 use borrow.Author.Tests.{le-leb, lt-leb, leb-true, leb-false}
 use lib.Dec.{leb}
+use Rattle.lists.proofs.Cases.{by-test}
 use Rattle.calendar.specs.Civil.{lastUpTo}
-
--- a test is true or false
-pub by-test {ℓ} : {A : Type ℓ} (b : Bool) → (b ≡ true → A) → (b ≡ false → A) → A
-by-test true yes-case no-case = yes-case refl
-by-test false yes-case no-case = no-case refl
 
 abbrev pub Rising : (ℕ → ℕ) → Type 0
 Rising sequence = (k : ℕ) → sequence k ≤ sequence (suc k)

@@ -1,0 +1,10 @@
+pub mod Places
+pub mod Taken
+pub mod Passed
+pub mod Values
+pub mod Gathering
+pub mod Means
+pub mod Substituted
+pub mod Evaluated
+pub mod Earlier
+pub mod Alike

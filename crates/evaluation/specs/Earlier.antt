@@ -1,0 +1,15 @@
+-- The same time of day in an earlier week: the same quarter number 7, 14, 21 and 28 days before. Assumes nothing.
+use Prim.Native.Nat.{ℕ, _*_, _-_}
+use mathlib.Core.Bool.{cond}
+use mathlib.Core.Option.{Option, none, some}
+use lib.Dec.{leb}
+
+-- a quarter hour of a day
+pub record Slot : Type 0 where
+  pub day : ℕ
+  pub quarter : ℕ
+
+-- the quarter hour so many weeks before; none lies before day 0
+unfoldable pub earlier : (weeks day quarter : ℕ) → Option Slot
+earlier weeks day quarter =
+    cond (leb (7 * weeks) day) (some (record { day = day - 7 * weeks; quarter = quarter })) none

@@ -1,0 +1,4 @@
+pub mod Earlier
+pub mod Substitutes
+pub mod Evaluation
+pub mod Working

@@ -1,0 +1,62 @@
+-- What users of the journal rely on. Assumes nothing.
+use Prim.Native.Nat.{ℕ, _≤_}
+use mathlib.Core.Path.{_≡_}
+use mathlib.Core.Bool.{true, false, _||_, false≢true}
+use mathlib.Core.List.{List, List·Memᴰ}
+use mathlib.Core.Option.{Option, none, some}
+use native.Mathlib.Omega.{arith}
+use lib.Dec.{leb, ltb}
+use borrow.Author.Tests.{leb-true, ltb-true, eqb-true}
+use Rattle.lists.proofs.Cases.{by-test, by-option}
+use Rattle.lists.proofs.Below.{and-left, and-right}
+use Rattle.journal.specs.Order.{Reading, weaker}
+use Rattle.journal.specs.Readings.{shown, hasStamp}
+use Rattle.journal.specs.Entries.{Entry, dayIn, readingsAt, kept, keep}
+use Rattle.journal.specs.Laws.{IsNewest, ShowsNewest, ShownIsNewest, PlaceTells, KeepShows, WrittenIsRead}
+use Rattle.journal.proofs.Those.{those-pass}
+use Rattle.journal.proofs.Literal.{Tells, shown-tells}
+use Rattle.journal.proofs.PlaceLaws.{pointIn-place, dayIn-place, quarterIn-place}
+use Rattle.journal.proofs.Entries.{right-rising}
+use Rattle.journal.proofs.Kept.{shown-keep}
+use Rattle.journal.proofs.Stored.{entries-written}
+
+-- a reading gives way only to one with a stamp at least as great
+newest-told : (T : ℕ) (rs : List Reading) (o : Option Reading) → Tells T rs o → ShowsNewest T rs o
+unfolding weaker
+newest-told T rs none h = h
+newest-told T rs (some m) h =
+    record { among = h .among; in-time = h .in-time; greatest = λ r a l. leb-true (r .stamp) (m .stamp) (h .over r a l) }
+
+pub shown-is-newest : ShownIsNewest
+shown-is-newest T rs = newest-told T rs (shown T rs) (shown-tells T rs)
+
+pub place-tells : PlaceTells
+place-tells point day quarter d q l = (pointIn-place point day quarter d q l, dayIn-place point day quarter d q l, quarterIn-place point day quarter d q l)
+
+pub keep-shows : KeepShows
+keep-shows K P T place es r k l =
+    shown-keep K P T place es k l (right-rising (r .points) (r .keptday) (r .last) place 0 0 (omega arith) es (r .right))
+
+-- what a clear with K and P keeps has a day of at least K, and no reading of its place up to P is newer
+pub kept-newest : (K P : ℕ) (es : List Entry) (e : Entry) → List·Memᴰ e (keep K P es)
+    → (K ≤ dayIn (e .place)) × ((r : Reading) → List·Memᴰ r (readingsAt es (e .place)) → r .stamp ≤ P → r .stamp ≤ e .stamp)
+unfolding keep
+kept-newest K P es e m =
+    let rs = readingsAt es (e .place) in
+    let day = leb K (dayIn (e .place)) in
+    let t : kept K P es e ≡ true = those-pass (kept K P es) e es m in
+    let u : ltb P (e .stamp) || hasStamp (shown P rs) (e .stamp) ≡ true = and-right day _ t in (
+      leb-true K (dayIn (e .place)) (and-left day _ t),
+      λ r a l.
+          by-test (ltb P (e .stamp))
+          (λ h. omega (arith, ltb-true P (e .stamp) h))
+          (λ h. by-option (shown P rs)
+          (λ n. let z : false ≡ true = rw (h, n) at u in absurd (false≢true z))
+          (λ s n.
+          let newest : IsNewest P rs s = rw n at (shown-is-newest P rs) in
+          let same : s .stamp ≡ e .stamp = eqb-true (s .stamp) (e .stamp) (rw (h, n) at u) in
+          omega (arith, newest .greatest r a l))),
+    )
+
+pub written-is-read : WrittenIsRead
+written-is-read es emptied j = entries-written es emptied j

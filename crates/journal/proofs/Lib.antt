@@ -1,0 +1,11 @@
+pub mod Those
+pub mod Order
+pub mod ShownLaws
+pub mod Literal
+pub mod PlaceLaws
+pub mod Kept
+pub mod Entries
+pub mod Stored
+pub mod Back
+pub mod Rules
+pub mod Laws

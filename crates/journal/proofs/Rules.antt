@@ -1,0 +1,112 @@
+-- Whether entries are right, told test by test: of one entry, and of the entries from the first on. Assumes nothing.
+use Prim.Native.Nat.{ℕ, _+_, _≤_, _<_}
+use native.Mathlib.Omega.{arith}
+use mathlib.Core.Path.{_≡_, refl, sym, _∙_, ap}
+use mathlib.Core.Bool.{Bool, true, false, _&&_}
+use mathlib.Core.List.{List, [], _∷_}
+use lib.Dec.{leb, ltb}
+use borrow.Author.Tests.{lt-ltb, le-ltb, le-leb, lt-leb}
+use Rattle.lists.proofs.Below.{and-late}
+use Rattle.calendar.specs.Quarters.{quarterExists}
+use Rattle.journal.specs.Value.{storedRight}
+use Rattle.journal.specs.Entries.{Entry, pointIn, dayIn, quarterIn}
+use Rattle.journal.specs.Stored.{entryAt, entries}
+use Rattle.journal.specs.Damage.{entryRight, entriesRight}
+use Rattle.journal.proofs.Stored.{rest, rest-start, rest-end, rest-step}
+
+-- ---- four tests in a row of which one fails, or of which three hold
+module _ (a b c d : Bool) where
+  first-fails : a ≡ false → false ≡ a && b && c && d
+  first-fails e = rw e
+
+  second-fails : b ≡ false → false ≡ a && b && c && d
+  second-fails e = rw (and-late a b e)
+
+  third-fails : c ≡ false → false ≡ a && b && c && d
+  third-fails e = rw (and-late (a && b) c e)
+
+  fourth-left : a ≡ true → b ≡ true → c ≡ true → d ≡ a && b && c && d
+  fourth-left p q r = rw (p, q, r)
+
+-- ---- one entry
+module _ (points K : ℕ) (e : Entry) where
+  -- the stamp does not matter
+  any-stamp : entryRight points K e ≡ entryRight points K (record { stamp = 0; place = e .place; stored = e .stored })
+  unfolding entryRight
+  any-stamp = refl
+
+  pub wrong-point : points ≤ pointIn (e .place) → false ≡ entryRight points K e
+  unfolding entryRight
+  wrong-point h = first-fails _ _ _ _ (le-ltb (pointIn (e .place)) points h)
+
+  pub wrong-day : dayIn (e .place) < K → false ≡ entryRight points K e
+  unfolding entryRight
+  wrong-day h = second-fails (ltb (pointIn (e .place)) points) _ _ _ (lt-leb K (dayIn (e .place)) h)
+
+  pub wrong-quarter : quarterExists (dayIn (e .place)) (quarterIn (e .place)) ≡ false → false ≡ entryRight points K e
+  unfolding entryRight
+  wrong-quarter h = third-fails (ltb (pointIn (e .place)) points) (leb K (dayIn (e .place))) _ _ h
+
+  pub stored-left : pointIn (e .place) < points → K ≤ dayIn (e .place) → quarterExists (dayIn (e .place)) (quarterIn (e .place)) ≡ true
+      → storedRight (e .stored) ≡ entryRight points K e
+  unfolding entryRight
+  stored-left p q r = fourth-left _ _ _ _ (lt-ltb (pointIn (e .place)) points p) (le-leb K (dayIn (e .place)) q) r
+
+-- ---- the entries from the first on
+module _ (points K last : ℕ) where
+  none-left : (before : ℕ) → entriesRight points K last before [] ≡ true
+  unfolding entriesRight
+  none-left before = refl
+
+  one-left : (before : ℕ) (e : Entry) (es : List Entry)
+      → entriesRight points K last before (e ∷ es)
+      ≡ ltb before (e .stamp) && leb (e .stamp) last && entryRight points K e && entriesRight points K last (e .stamp) es
+  unfolding entriesRight
+  one-left before e es = refl
+
+  module _ (j : List ℕ) (count : ℕ) where
+    -- all entries are right where those from number i on are, above the stamp `before`
+    pub record Passed (before i : ℕ) : Type 0 where
+      pub within : i ≤ count
+      pub same : entriesRight points K last 0 (entries count j) ≡ entriesRight points K last before (rest j count i)
+
+    pub passed-start : Passed 0 0
+    passed-start = record { within = omega arith; same = ap (entriesRight points K last 0) (sym (rest-start j count)) }
+
+    pub passed-end : (before i : ℕ) → count ≤ i → Passed before i → true ≡ entriesRight points K last 0 (entries count j)
+    passed-end before i h p =
+        let z : i ≡ count = omega (arith, p .within) in
+        sym (p .same ∙ rw (z, rest-end j count) (none-left before))
+
+    module _ (before i : ℕ) (l : i < count) (p : Passed before i) where
+      -- the tests of entry number i, and the entries after it
+      step : entriesRight points K last 0 (entries count j)
+          ≡ ltb before (entryAt j i .stamp) && leb (entryAt j i .stamp) last && entryRight points K (entryAt j i)
+          && entriesRight points K last (entryAt j i .stamp) (rest j count (i + 1))
+      step = p .same ∙ rw (rest-step j count i l) (one-left before (entryAt j i) (rest j count (i + 1)))
+
+      pub not-above : entryAt j i .stamp ≤ before → false ≡ entriesRight points K last 0 (entries count j)
+      not-above h = rw step (first-fails _ _ _ _ (le-ltb before (entryAt j i .stamp) h))
+
+      pub above-last : last < entryAt j i .stamp → false ≡ entriesRight points K last 0 (entries count j)
+      above-last h = rw step (second-fails (ltb before (entryAt j i .stamp)) _ _ _ (lt-leb (entryAt j i .stamp) last h))
+
+      pub entry-wrong : entryRight points K (record { stamp = 0; place = entryAt j i .place; stored = entryAt j i .stored }) ≡ false
+          → false ≡ entriesRight points K last 0 (entries count j)
+      entry-wrong h =
+          rw step
+          (third-fails (ltb before (entryAt j i .stamp)) (leb (entryAt j i .stamp) last) _ _ (any-stamp points K (entryAt j i) ∙ h))
+
+      pub entry-passed : before < entryAt j i .stamp → entryAt j i .stamp ≤ last
+          → entryRight points K (record { stamp = 0; place = entryAt j i .place; stored = entryAt j i .stored }) ≡ true
+          → Passed (entryAt j i .stamp) (i + 1)
+      entry-passed a b h =
+          record {
+            within = omega arith;
+            same =
+                step
+                ∙ sym (fourth-left _ _ _ _
+                (lt-ltb before (entryAt j i .stamp) a)
+                (le-leb (entryAt j i .stamp) last b)
+                (any-stamp points K (entryAt j i) ∙ h));
+          }

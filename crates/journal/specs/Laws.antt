@@ -1,0 +1,41 @@
+-- What users of the journal rely on, stated of its definitions; the proofs stand in proofs/Laws.antt. Assumes nothing.
+use Prim.Native.Nat.{ℕ, _≤_, _<_}
+use mathlib.Core.Path.{_≡_}
+use mathlib.Core.List.{List, List·Memᴰ}
+use mathlib.Core.Option.{Option, none, some}
+use lib.ListN.{length}
+use Rattle.journal.specs.Order.{Reading}
+use Rattle.journal.specs.Readings.{shown}
+use Rattle.journal.specs.Entries.{Entry, placeOf, pointIn, dayIn, quarterIn, readingsAt, keep}
+use Rattle.journal.specs.Stored.{entries, written}
+use Rattle.journal.specs.Damage.{Right}
+
+-- m is the newest of the readings as of T: one of them, with a stamp of at most T, and no other of at most T has a greater one
+pub record IsNewest (T : ℕ) (rs : List Reading) (m : Reading) : Type 0 where
+  pub among : List·Memᴰ m rs
+  pub in-time : m .stamp ≤ T
+  pub greatest : (r : Reading) → List·Memᴰ r rs → r .stamp ≤ T → r .stamp ≤ m .stamp
+
+-- what is shown as of T is the newest; where nothing is shown every stamp is above T
+abbrev pub ShowsNewest : ℕ → List Reading → Option Reading → Type 0
+ShowsNewest T rs none = (r : Reading) → List·Memᴰ r rs → T < r .stamp
+ShowsNewest T rs (some m) = IsNewest T rs m
+
+abbrev pub ShownIsNewest : Type 0
+ShownIsNewest = (T : ℕ) (rs : List Reading) → ShowsNewest T rs (shown T rs)
+
+-- a place tells its point, day and quarter
+abbrev pub PlaceTells : Type 0
+PlaceTells =
+    (point day quarter : ℕ) → day ≤ 27758 → 1 ≤ quarter → quarter ≤ 100
+    → (pointIn (placeOf point day quarter) ≡ point) × (dayIn (placeOf point day quarter) ≡ day) × (quarterIn (placeOf point day quarter) ≡ quarter)
+
+-- whatever a clear with K and P drops, each place with a day of at least K goes on to show the same as of every T from P on
+abbrev pub KeepShows : Type 0
+KeepShows =
+    (K P T place : ℕ) (es : List Entry) → Right es → K ≤ dayIn place → P ≤ T
+    → shown T (readingsAt (keep K P es) place) ≡ shown T (readingsAt es place)
+
+-- what is written is read again
+abbrev pub WrittenIsRead : Type 0
+WrittenIsRead = (es : List Entry) (emptied : ℕ) (j : List ℕ) → entries (length es) (written es emptied j) ≡ es

@@ -1,0 +1,29 @@
+-- What was read for a quarter hour, and how a journal stores it: as its magnitude. Assumes nothing.
+use Prim.Native.Nat.{ℕ}
+use mathlib.Core.Bool.{Bool}
+use lib.IntN.{ℤ, natAbs}
+use lib.Dec.{leb, eqb}
+
+-- energy in hundredths of a kWh, withdrawn or supplied
+pub record Value : Type 0 where
+  pub magnitude : ℕ
+
+-- the value that a submission brings: withdrawals arrive as negative numbers, supplies as positive
+abbrev pub valueOf : ℤ → Value
+valueOf number = record { magnitude = natAbs number }
+
+-- two values are the same where their magnitudes are
+abbrev pub sameValue : Value → Value → Bool
+sameValue v w = eqb (v .magnitude) (w .magnitude)
+
+-- the number that stands in an entry for a value
+abbrev pub storedOf : Value → ℕ
+storedOf value = value .magnitude
+
+-- the value that an entry's number stands for
+abbrev pub valueIn : ℕ → Value
+valueIn stored = record { magnitude = stored }
+
+-- a magnitude lies between 0 and 99999999
+abbrev pub storedRight : ℕ → Bool
+storedRight stored = leb stored 99999999

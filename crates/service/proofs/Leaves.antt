@@ -1,0 +1,83 @@
+-- What a call leaves as it is: a refused one all, an accepted one registration and room, and what it leaves fits the journal. Assumes nothing.
+use Prim.Native.Nat.{ℕ, _*_, _≤_}
+use native.Mathlib.Omega.{arith}
+use mathlib.Core.Path.{_≡_, refl, sym, subst}
+use mathlib.Core.List.{List, [], _∷_}
+use lib.IntN.{ℤ}
+use lib.ListN.{length, length-append}
+use Rattle.answers.specs.declared.Verdict.{Verdict}
+use Rattle.answers.specs.declared.Verdict.the-variants.{Accepted, Refused}
+use Rattle.answers.proofs.Refusals.{passed}
+use Rattle.lists.proofs.Cases.{by-test}
+use Rattle.service.specs.Group.{Group, Call, Submission, Clear, Evaluation, After}
+use Rattle.service.specs.Refusals.{repeats, submissionVerdict, clearVerdict, evaluationVerdict}
+use Rattle.service.specs.Calls.{nextStamp, entryOf, submitted, cleared, evaluated, unless, step}
+use Rattle.service.specs.Laws.{lentBy}
+use Rattle.service.proofs.Sound.{undamaged-sound}
+use Rattle.service.proofs.Submissions.{admitted, submitted-accepted}
+use Rattle.service.proofs.Clearings.{length-keep}
+
+-- a refused call leaves last stamp, group and the list lent, and returns 0
+pub record Untouched (last : ℕ) (G : Group) (lent : List ℕ) (after : After) : Type 0 where
+  pub last-same : after .last ≡ last
+  pub group : after .group ≡ G
+  pub result : after .seen .result ≡ lent
+  pub number : after .seen .number ≡ 0
+
+-- an accepted call leaves registration and room, and there is room for its entries and for those before it
+pub record Fits (G : Group) (after : After) : Type 0 where
+  pub registration : after .group .registration ≡ G .registration
+  pub room : after .group .room ≡ G .room
+  pub before : 3 * length (G .entries) ≤ G .room
+  pub now : 3 * length (after .group .entries) ≤ G .room
+
+-- what a call leaves, by its verdict
+abbrev pub Leaves : Verdict → (last : ℕ) → Group → (lent : List ℕ) → After → Type 0
+Leaves (Refused refusal) last G lent after = Untouched last G lent after
+Leaves Accepted last G lent after = Fits G after
+
+-- a refused call leaves all, and an accepted one what its own law says
+leaves-unless : (verdict : Verdict) (last : ℕ) (G : Group) (lent : List ℕ) (after : After) → after .seen .verdict ≡ Accepted
+    → (verdict ≡ Accepted → Fits G after)
+    → Leaves (unless verdict last G lent after .seen .verdict) last G lent (unless verdict last G lent after)
+leaves-unless Accepted last G lent after e f = subst (λ (v : Verdict). Leaves v last G lent after) (sym e) (f refl)
+leaves-unless (Refused refusal) last G lent after e f = record { last-same = refl; group = refl; result = refl; number = refl }
+
+-- an accepted submission
+submission-fits : (last : ℕ) (G : Group) (clock code day quarter : ℕ) (value : ℤ) → submissionVerdict last G clock code day quarter value ≡ Accepted
+    → Fits G (submitted last G clock code day quarter value)
+unfolding submitted submissionVerdict
+submission-fits last G clock code day quarter value e =
+    let s = undamaged-sound last G (passed _ _ _ e .0) in
+    let a = admitted last G clock code day quarter value e in
+    by-test (repeats last G code day quarter value)
+    (λ t. rw t (record { registration = refl; room = refl; before = s .fits; now = s .fits }))
+    (λ t. rw t (record {
+      registration = refl;
+      room = refl;
+      before = s .fits;
+      now = omega (arith, a .room t, length-append (G .entries) (entryOf G (nextStamp clock last) code day quarter value ∷ []));
+    }))
+
+-- an accepted clear
+clear-fits : (last : ℕ) (G : Group) (day stamp : ℕ) → clearVerdict last G day stamp ≡ Accepted → Fits G (cleared last G day stamp)
+unfolding cleared clearVerdict
+clear-fits last G day stamp e =
+    let s = undamaged-sound last G (passed _ _ _ e .0) in
+    record { registration = refl; room = refl; before = s .fits; now = omega (arith, s .fits, length-keep G day stamp) }
+
+-- an accepted evaluation
+evaluation-fits : (last : ℕ) (G : Group) (day quarter T : ℕ) (lent : List ℕ) → evaluationVerdict last G day quarter T lent ≡ Accepted
+    → Fits G (evaluated last G day quarter T lent)
+unfolding evaluated evaluationVerdict
+evaluation-fits last G day quarter T lent e =
+    let s = undamaged-sound last G (passed _ _ _ e .0) in
+    record { registration = refl; room = refl; before = s .fits; now = s .fits }
+
+-- every call, on whatever group
+pub leaves : (last : ℕ) (G : Group) (call : Call) → Leaves (step last G call .seen .verdict) last G (lentBy call) (step last G call)
+unfolding step cleared evaluated
+leaves last G (Submission clock code day quarter value) =
+    leaves-unless _ last G [] _ (submitted-accepted last G clock code day quarter value) (submission-fits last G clock code day quarter value)
+leaves last G (Clear day stamp) = leaves-unless _ last G [] _ refl (clear-fits last G day stamp)
+leaves last G (Evaluation day quarter T lent) = leaves-unless _ last G lent _ refl (evaluation-fits last G day quarter T lent)

@@ -1,0 +1,103 @@
+-- What is looked up for a submission: zeros where it is refused, and by the reading shown where it passes all tests but the last. Assumes nothing.
+use Prim.Native.Nat.{ℕ, _*_, _-_, _≤_, _<_}
+use mathlib.Core.Path.{_≡_, refl, sym, _∙_, ap}
+use mathlib.Core.Bool.{Bool, true, false, not, _&&_}
+use mathlib.Core.Logic.{_≢_}
+use mathlib.Core.Option.{Option, none, some}
+use native.Mathlib.Omega.{arith}
+use lib.IntN.{ℤ, natAbs}
+use lib.Dec.{ltb, eqb}
+use lib.ListN.{length}
+use borrow.Author.Tests.{lt-ltb, le-ltb, eq-eqb, ne-eqb}
+use Rattle.answers.specs.declared.Refusal.{Refusal}
+use Rattle.answers.specs.declared.Verdict.{Verdict}
+use Rattle.answers.specs.declared.Refusal.the-variants.{JournalFull}
+use Rattle.answers.specs.declared.Verdict.the-variants.{Accepted, Refused}
+use Rattle.lists.proofs.Cases.{by-test}
+use Rattle.calendar.specs.Quarters.{quarterExists}
+use Rattle.journal.specs.declared.Found.{Found}
+use Rattle.journal.specs.declared.Found.the-variants.{Shown, Nothing}
+use Rattle.journal.specs.Value.{Value, valueIn, valueOf}
+use Rattle.journal.specs.Order.{Reading}
+use Rattle.journal.specs.Readings.{shown, sameAs, stampOf}
+use Rattle.journal.specs.Entries.{readingsAt}
+use Rattle.journal.specs.Found.{found}
+use Rattle.service.specs.declared.Looked.{Looked}
+use Rattle.lists.proofs.TableLaws.{length-table}
+use Rattle.registration.specs.declared.Registration.{Registration}
+use Rattle.registration.specs.Rules.{points, codeAt}
+use Rattle.service.specs.Points.{codesOf, indexOf, has}
+use Rattle.service.specs.Group.{Group, rollOf, placeFor, readingsOf}
+use Rattle.service.specs.Refusals.{stampMost, damaged, signSuits, repeats, full, submissionVerdict}
+use Rattle.service.specs.Calls.{nextStamp, submitted, step}
+use Rattle.service.specs.Working.{refusedLook, newLook, settled, Looks}
+use Rattle.service.proofs.Verdicts.{submission-full, submission-accepted}
+
+pub never-accepted : {A : Type 0} (refusal : Refusal) → Refused refusal ≡ Accepted → A
+never-accepted refusal e = let z : _≡_ {A = ℕ} 0 1 = cc in absurd (omega arith)
+
+-- ---- a code, by the number that the search for it found
+module _ (r : Registration) (code point : ℕ) (e : point ≡ indexOf code (codesOf r)) where
+  pub in-group : point < points r → has code (codesOf r) ≡ true
+  in-group h = rw (← e, length-table (codeAt r) (points r)) (lt-ltb point (points r) h)
+
+  pub not-in-group : points r ≤ point → has code (codesOf r) ≡ false
+  not-in-group h = rw (← e, length-table (codeAt r) (points r)) (le-ltb point (points r) h)
+
+-- ---- a new entry, by whether three numbers are left
+module _ (left clock last place : ℕ) where
+  pub new-refused : (r : Looked) → left < 3 → r ≡ refusedLook JournalFull → r ≡ newLook left clock last place
+  new-refused r h e = rw (lt-ltb left 3 h) e
+
+  pub new-accepted : (stamp : ℕ) → 3 ≤ left → stamp ≡ nextStamp clock last
+      → _≡_ {A = Looked} (record { verdict = Accepted; repeat = false; stamp = stamp; place = place }) (newLook left clock last place)
+  new-accepted stamp h e = rw (le-ltb left 3 h, e)
+
+-- ---- by what the search found
+module _ (old : Found) (magnitude left clock last place : ℕ) where
+  pub settled-none : (r : Looked) → old ≡ Nothing → r ≡ newLook left clock last place
+      → r ≡ settled (found old) (valueIn magnitude) left clock last place
+  settled-none r e n = rw e n
+
+  module _ (stamp stored : ℕ) (e : old ≡ Shown stamp stored) where
+    pub settled-repeat : stored ≡ magnitude
+        → _≡_ {A = Looked} (record { verdict = Accepted; repeat = true; stamp = stamp; place = place }) (settled (found old) (valueIn magnitude) left clock last place)
+    settled-repeat q = rw (e, eq-eqb stored magnitude q)
+
+    pub settled-other : (r : Looked) → (stored ≡ magnitude → ⊥) → r ≡ newLook left clock last place
+        → r ≡ settled (found old) (valueIn magnitude) left clock last place
+    settled-other r q n = rw (e, ne-eqb stored magnitude q) n
+
+module _ (last : ℕ) (G : Group) (clock code day quarter : ℕ) (value : ℤ) where
+  -- nothing is looked up for a refused submission
+  pub looks-refused : (refusal : Refusal) (r : Looked) → Refused refusal ≡ submissionVerdict last G clock code day quarter value → r ≡ refusedLook refusal
+      → Looks last G clock code day quarter value r
+  unfolding step
+  looks-refused refusal r e q =
+      rw q (record { verdict = e; stamp = rw (← e); repeat = λ a. never-accepted refusal a; place = λ a. never-accepted refusal a })
+
+  -- the verdict past all tests but the last
+  module _ (full-verdict : not (repeats last G code day quarter value) && full G ≡ true → Refused JournalFull ≡ submissionVerdict last G clock code day quarter value)
+      (accepted-verdict : not (repeats last G code day quarter value) && full G ≡ false → Accepted ≡ submissionVerdict last G clock code day quarter value) where
+    pub looks-settled : Looks last G clock code day quarter value
+        (settled (shown last (readingsOf G code day quarter)) (valueOf value) (G .room - 3 * length (G .entries)) clock last (placeFor G code day quarter))
+    unfolding step submitted
+    looks-settled =
+        by-test (repeats last G code day quarter value)
+        (λ t.
+        rw t (record { verdict = accepted-verdict (rw t); stamp = rw (← accepted-verdict (rw t), t); repeat = λ a. sym t; place = λ a. refl }))
+        (λ t.
+        by-test (full G)
+        (λ u. rw (t, u) (looks-refused JournalFull _ (full-verdict (rw (t, u))) refl))
+        (λ u. rw (t, u) (record {
+          verdict = accepted-verdict (rw (t, u));
+          stamp = rw (← accepted-verdict (rw (t, u)), t);
+          repeat = λ a. sym t;
+          place = λ a. refl;
+        })))
+
+    -- the same of what the search found
+    pub looks-found : (r : Looked) (old : Option Reading) (magnitude left place : ℕ) → r ≡ settled old (valueIn magnitude) left clock last place
+        → old ≡ shown last (readingsAt (G .entries) place) → magnitude ≡ natAbs value → left ≡ G .room - 3 * length (G .entries)
+        → place ≡ placeFor G code day quarter → Looks last G clock code day quarter value r
+    looks-found r old magnitude left place e o m l p = rw (e, o, m, l, p) looks-settled

@@ -1,0 +1,49 @@
+-- Two codes, days and quarters have the same place exactly where they are the same. Assumes nothing.
+use Prim.Native.Nat.{ℕ, _≤_, _<_}
+use native.Mathlib.Omega.{arith}
+use native.Mathlib.Nat.{not-suc-le-zero, le-of-suc-le-suc}
+use mathlib.Core.Path.{_≡_, sym, _∙_, ap}
+use mathlib.Core.Bool.{_&&_, true≢false}
+use mathlib.Core.List.{List, [], _∷_}
+use lib.Dec.{eqb}
+use lib.ListN.{length, getD}
+use borrow.Author.Tests.{eqb-true, eq-eqb, ne-eqb}
+use Rattle.lists.proofs.Cases.{by-test}
+use Rattle.lists.proofs.Below.{and-left, and-right}
+use Rattle.journal.specs.Entries.{placeOf}
+use Rattle.journal.proofs.PlaceLaws.{pointIn-place, dayIn-place, quarterIn-place}
+use Rattle.service.specs.Points.{indexOf}
+
+-- a code that is in a list stands at its index
+pub index-found : (code : ℕ) (xs : List ℕ) → indexOf code xs < length xs → getD xs (indexOf code xs) 0 ≡ code
+unfolding indexOf
+index-found code [] h = absurd (not-suc-le-zero h)
+index-found code (x ∷ xs) h =
+    by-test (eqb code x) (λ e. rw e (sym (eqb-true code x e))) (λ e. rw e (index-found code xs (le-of-suc-le-suc (rw e at h))))
+
+-- so codes with one index are one code
+index-same : (b c : ℕ) (xs : List ℕ) → indexOf b xs < length xs → indexOf b xs ≡ indexOf c xs → b ≡ c
+index-same b c xs h e =
+    let k : indexOf c xs < length xs = omega arith in
+    sym (index-found b xs h) ∙ ap (λ (i : ℕ). getD xs i 0) e ∙ index-found c xs k
+
+-- two codes, of which the first is one of the group's, each with its day and quarter
+module _ (roll : List ℕ) (b c d q d′ q′ : ℕ) (hb : indexOf b roll < length roll)
+    (hd : d ≤ 27758) (hd′ : d′ ≤ 27758) (hq : 1 ≤ q) (hr : q ≤ 100) (hq′ : 1 ≤ q′) (hr′ : q′ ≤ 100) where
+  -- their places are the same exactly where code, day and quarter are
+  pub same-place : eqb (placeOf (indexOf b roll) d q) (placeOf (indexOf c roll) d′ q′) ≡ eqb b c && eqb d d′ && eqb q q′
+  same-place =
+      by-test (eqb b c && eqb d d′ && eqb q q′)
+      (λ t.
+      let two = and-left (eqb b c && eqb d d′) (eqb q q′) t in
+      let a : b ≡ c = eqb-true b c (and-left (eqb b c) (eqb d d′) two) in
+      let e : d ≡ d′ = eqb-true d d′ (and-right (eqb b c) (eqb d d′) two) in
+      let f : q ≡ q′ = eqb-true q q′ (and-right (eqb b c && eqb d d′) (eqb q q′) t) in
+      eq-eqb (placeOf (indexOf b roll) d q) (placeOf (indexOf c roll) d′ q′) (cc) ∙ sym t)
+      (λ t. ne-eqb (placeOf (indexOf b roll) d q) (placeOf (indexOf c roll) d′ q′) (λ e.
+      let a : indexOf b roll ≡ indexOf c roll = cc (pointIn-place (indexOf b roll) d q hd hq hr, pointIn-place (indexOf c roll) d′ q′ hd′ hq′ hr′) in
+      let f : d ≡ d′ = cc (dayIn-place (indexOf b roll) d q hd hq hr, dayIn-place (indexOf c roll) d′ q′ hd′ hq′ hr′) in
+      let g : q ≡ q′ = cc (quarterIn-place (indexOf b roll) d q hd hq hr, quarterIn-place (indexOf c roll) d′ q′ hd′ hq′ hr′) in
+      let k : b ≡ c = index-same b c roll hb a in
+      true≢false (cc (eq-eqb b c k, eq-eqb d d′ f, eq-eqb q q′ g)))
+      ∙ sym t)

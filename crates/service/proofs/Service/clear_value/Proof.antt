@@ -1,0 +1,55 @@
+-- `service::Service::clear_value` meets its contract. Assumes nothing.
+use mathlib.Core.Path.{refl, sym, _∙_}
+use Rattle.service.proofs.Undamaged.{few-points, right-of, fits-of}
+use Rattle.service.proofs.Cores.{clear-sound, kept-few, clears-refused, clears-accepted}
+use native.Mathlib.Omega.{arith}
+use borrow.Author.Needs.{needs}
+use Rattle.service.proofs.Service.clear_value.Statement.{statement}
+use Rattle.service.proofs.Service.clear_value.Tie as tie
+use Rattle.service.proofs.Service.clear_value.Reads as reads
+use Rattle.service.proofs.Service.clear_value.Lts as lts
+use Rattle.journal_clear.proofs.keep.Reads as keep-reads
+use Rattle.service.proofs.refusals.clear_verdict.Reads as clear-verdict-reads
+
+clear-verdict-requires : tie.Need-clear-verdict-requires
+clear-verdict-requires c κs = search needs
+
+enum-known-verdict : tie.Need-enum-known-verdict
+enum-known-verdict c = search needs
+
+same-length : tie.Need-same-length
+same-length c = search needs
+
+returns : tie.Need-returns
+returns c = clears-refused _ _ _ _ _ _ (c .before .before .before .clear-verdict .ensures) (c .before .verdict .given .1)
+
+enum-told : tie.Need-enum-told
+enum-told c = search needs
+
+keep-requires : tie.Need-keep-requires
+keep-requires c κs =
+    let s = clear-sound _ _ _ _ (sym (c .before .before .before .clear-verdict .ensures) ∙ search) in
+    (fits-of _ _ s, right-of _ _ (few-points _ _ s) s)
+
+sub-dropped : tie.Need-sub-dropped
+sub-dropped c = rw (c .before .before .keep .ensures .number) (kept-few (c .before .before .before .before .before .before .before .before .before .before .args .day) (c .before .before .before .before .before .before .before .before .before .before .args .stamp) (c .before .before .before .before .before .before .before .before .before .before .args .self .state .entries) (c .before .before .before .before .before .before .before .before .before .before .args .journal .now))
+
+same-length-2 : tie.Need-same-length-2
+same-length-2 c = search needs
+
+returns-2 : tie.Need-returns-2
+returns-2 c = clears-accepted _ _ _ _ _ _ _ _ (c .before .before .before .before .before .before .clear-verdict .ensures) (search) (c .before .before .keep .ensures) refl
+
+pub clear-value-spec : {M : Type 1} → statement M
+clear-value-spec =
+    tie.close
+    (tie.spec
+    clear-verdict-requires
+    enum-known-verdict
+    same-length
+    returns
+    enum-told
+    keep-requires
+    sub-dropped
+    same-length-2
+    returns-2)

@@ -1,0 +1,25 @@
+-- `service::Service::fresh` meets its contract. Assumes nothing.
+use mathlib.Core.Path.{sym, _∙_}
+use Rattle.service.proofs.Begun.{fresh-refused, fresh-made}
+use borrow.Author.Needs.{needs}
+use Rattle.service.proofs.Service.fresh.Statement.{statement}
+use Rattle.service.proofs.Service.fresh.Tie as tie
+use Rattle.service.proofs.Service.fresh.Reads as reads
+use Rattle.service.proofs.Service.fresh.Lts as lts
+use Rattle.registration.proofs.Registration.empty.Reads as empty-reads
+use Rattle.registration_damage.proofs.damaged.Reads as damaged-reads
+
+damaged-requires : tie.Need-damaged-requires
+damaged-requires c κs = search needs
+
+empty-requires : tie.Need-empty-requires
+empty-requires c κs = search needs
+
+returns : tie.Need-returns
+returns c = fresh-refused _ _ (sym (c .before .before .damaged .ensures) ∙ c .before .if1 .taken) (c .empty .ensures)
+
+returns-2 : tie.Need-returns-2
+returns-2 c = fresh-made _ (sym (c .before .damaged .ensures) ∙ c .if1 .left)
+
+pub fresh-spec : {M : Type 1} → statement M
+fresh-spec = tie.close (tie.spec damaged-requires empty-requires returns returns-2)

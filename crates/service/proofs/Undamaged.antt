@@ -1,0 +1,60 @@
+-- A group that is not sound is damaged, and past the other tests its entries tell. Assumes nothing.
+use Prim.Native.Nat.{ℕ, _*_, _≤_, _<_}
+use mathlib.Core.Path.{_≡_, refl, sym, _∙_}
+use mathlib.Core.Bool.{Bool, true, false, not, _||_, true≢false}
+use mathlib.Core.Logic.{_≢_}
+use native.Mathlib.Omega.{arith}
+use mathlib.Core.List.{List}
+use lib.ListN.{length}
+use lib.Dec.{ltb}
+use borrow.Author.Tests.{ltb-false, not-false, le-ltb}
+use Rattle.lists.proofs.TableLaws.{length-table}
+use Rattle.registration.specs.Rules.{points, codeAt}
+use Rattle.registration.specs.Damage.{isDamaged}
+use Rattle.registration.proofs.Damage.{undamaged-parts, point-bounds}
+use Rattle.journal.specs.Damage.{entriesRight, Right}
+use Rattle.journal.proofs.Stored.{length-entries}
+use Rattle.service.specs.declared.Service.{Service}
+use Rattle.service.specs.Record.{groupIn}
+use Rattle.service.specs.Group.{Group, rollOf}
+use Rattle.service.specs.Refusals.{stampMost, damaged}
+use Rattle.lists.proofs.Cases.{by-test}
+use Rattle.service.proofs.Sound.{Sound, undamaged-sound}
+
+-- one part that is missing makes a group damaged
+pub damaged-by : (last : ℕ) (G : Group) → (Sound last G → ⊥) → true ≡ damaged last G
+damaged-by last G n = by-test (damaged last G) (λ t. sym t) (λ t. absurd (n (undamaged-sound last G t)))
+
+-- past the other tests, what is left to tell is whether the entries are right
+pub damaged-entries : (last : ℕ) (G : Group) → isDamaged (G .registration) ≡ false → G .keptstamp ≤ last → last ≤ stampMost → G .keptday ≤ 27758
+    → 3 * length (G .entries) ≤ G .room → (right : Bool) → right ≡ entriesRight (points (G .registration)) (G .keptday) last 0 (G .entries)
+    → not right ≡ damaged last G
+unfolding damaged
+damaged-entries last G a b c d e right r =
+    rw (
+      a,
+      le-ltb last (G .keptstamp) b,
+      le-ltb stampMost last c,
+      le-ltb 27758 (G .keptday) d,
+      le-ltb (G .room) (3 * length (G .entries)) e,
+      length-table (codeAt (G .registration)) (points (G .registration)),
+      ← r,
+    )
+
+-- a sound group has at most 64 points
+pub few-points : (last : ℕ) (G : Group) → Sound last G → points (G .registration) ≤ 64
+few-points last G k = point-bounds _ _ (undamaged-parts _ (k .registered) .point-counts) .2
+
+-- the entries of a sound group are right, and fit into its journal
+pub right-of : (last : ℕ) (G : Group) → points (G .registration) ≤ 64 → Sound last G → Right (G .entries)
+right-of last G h k =
+    record {
+      points = length (rollOf G);
+      keptday = G .keptday;
+      last = last;
+      few = rw (length-table (codeAt (G .registration)) (points (G .registration))) h;
+      right = k .right;
+    }
+
+pub fits-of : (s : Service) (j : List ℕ) → Sound (s .state .last) (groupIn s j) → 3 * s .state .entries ≤ length j
+fits-of s j k = omega (arith, k .fits, length-entries (s .state .entries) j)

@@ -1,0 +1,29 @@
+-- `service::refusals::earliest` meets its contract. Assumes nothing.
+use Prim.Native.Nat.{ℕ, zero, suc, _+_}
+use mathlib.Core.Path.{_≡_, refl}
+use Rattle.service.specs.Refusals.{earliest}
+use native.Mathlib.Omega.{arith}
+use borrow.Author.Needs.{needs}
+use Rattle.service.proofs.refusals.earliest.Statement.{statement}
+use Rattle.service.proofs.refusals.earliest.Tie as tie
+use Rattle.service.proofs.refusals.earliest.Reads as reads
+use Rattle.service.proofs.refusals.earliest.Lts as lts
+
+-- with a kept day above 0 it is four weeks later
+earliest-some : (K : ℕ) → (K ≡ 0 → ⊥) → K + 28 ≡ earliest K
+unfolding earliest
+earliest-some zero n = absurd (n refl)
+earliest-some (suc K) n = refl
+
+returns : tie.Need-returns
+unfolding earliest
+returns c = rw (c .if1 .taken)
+
+add-result : tie.Need-add-result
+add-result c = search needs
+
+returns-2 : tie.Need-returns-2
+returns-2 c = earliest-some _ (c .if1 .left)
+
+pub earliest-spec : {M : Type 1} → statement M
+earliest-spec = tie.close (tie.spec returns add-result returns-2)

@@ -1,0 +1,24 @@
+-- `service::refusals::look_new` meets its contract. Assumes nothing.
+use Rattle.service.proofs.Looking.{new-refused, new-accepted}
+use borrow.Author.Needs.{needs}
+use Rattle.service.proofs.refusals.look_new.Statement.{statement}
+use Rattle.service.proofs.refusals.look_new.Tie as tie
+use Rattle.service.proofs.refusals.look_new.Reads as reads
+use Rattle.service.proofs.refusals.look_new.Lts as lts
+use Rattle.service.proofs.refusals.next_stamp.Reads as next-stamp-reads
+use Rattle.service.proofs.refusals.refused.Reads as refused-reads
+
+refused-requires : tie.Need-refused-requires
+refused-requires c κs = search needs
+
+returns : tie.Need-returns
+returns c = new-refused _ _ _ _ _ (c .before .if1 .taken) (c .refused .ensures)
+
+next-stamp-requires : tie.Need-next-stamp-requires
+next-stamp-requires c κs = search needs
+
+returns-2 : tie.Need-returns-2
+returns-2 c = new-accepted _ _ _ _ _ (c .before .if1 .left) (c .next-stamp .ensures)
+
+pub look-new-spec : {M : Type 1} → statement M
+look-new-spec = tie.close (tie.spec refused-requires returns next-stamp-requires returns-2)

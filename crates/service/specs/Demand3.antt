@@ -1,0 +1,89 @@
+-- Demand 3: one claim about every list of calls on a fresh service. Its proof stands in proofs/Demand3.antt. Assumes nothing.
+use Prim.Native.Nat.{ℕ, _+_}
+use mathlib.Core.Path.{_≡_}
+use mathlib.Core.Bool.{Bool, true, false}
+use mathlib.Core.List.{List}
+use mathlib.Core.Logic.{_≢_}
+use lib.ListN.{length, take, drop}
+use Rattle.answers.specs.declared.Verdict.{Verdict}
+use Rattle.answers.specs.declared.Verdict.the-variants.{Accepted, Refused}
+use Rattle.answers.specs.declared.Refusal.the-variants.{Damaged}
+use Rattle.registration.specs.declared.Registration.{Registration}
+use Rattle.registration.specs.Rules.{countAt}
+use Rattle.registration.specs.Damage.{isDamaged}
+use Rattle.lists.specs.Below.{sumBelow}
+use Rattle.allocation.specs.Result.{Allocation}
+use Rattle.service.specs.declared.Service.{Service}
+use Rattle.service.specs.Group.{Call, Submission, Clear, Evaluation, Seen}
+use Rattle.service.specs.Record.{freshService, callOn}
+use Rattle.service.specs.Book.{Book, newBook, bookStamp, bookAfter, bookResult}
+use Rattle.service.specs.Lists.{run, AllRight, Made}
+
+-- whether a call was refused; an accepted call is one not refused
+abbrev pub isRefused : Verdict → Bool
+isRefused Accepted = false
+isRefused (Refused refusal) = true
+
+abbrev pub refused : Seen → Bool
+refused seen = isRefused (seen .verdict)
+
+-- record and journal: each call gets them as the one before left them, and nothing else writes them meanwhile
+pub record Kept : Type 0 where
+  pub service : Service
+  pub journal : List ℕ
+
+-- what is seen of a call
+abbrev pub look : Kept → Call → Seen
+look kept call = callOn (kept .service) (kept .journal) call .seen
+
+-- record and journal after it
+abbrev pub next : Kept → Call → Kept
+next kept call =
+    let left = callOn (kept .service) (kept .journal) call in
+    record { service = left .service; journal = left .journal }
+
+-- what is seen of the calls of a list, from a fresh service and a journal of any length and content
+abbrev pub seenOf : Registration → (journal : List ℕ) → List Call → List Seen
+seenOf r journal calls = run look next (record { service = freshService r; journal = journal }) calls
+
+-- so many numbers of a list, from a place on
+abbrev pub part : (at count : ℕ) → List ℕ → List ℕ
+part at count numbers = take count (drop at numbers)
+
+-- an evaluation gives the pair shares, remaining withdrawals, remaining supplies and round count of a result
+pub record Gives (result : Allocation) (seen : Seen) : Type 0 where
+  pub shares : part 0 (length (result .shares)) (seen .result) ≡ result .shares
+  pub withdrawals : part (length (result .shares)) (length (result .withdrawals)) (seen .result) ≡ result .withdrawals
+  pub supplies : part (length (result .shares) + length (result .withdrawals)) (length (result .supplies)) (seen .result) ≡ result .supplies
+  pub rounds : seen .number ≡ result .rounds
+
+-- what is right of an accepted call, by the book as the earlier calls made it
+abbrev pub Right : Book → Call → Seen → Type 0
+Right book (Submission clock code day quarter value) seen = seen .number ≡ bookStamp book clock code day quarter value
+Right book (Clear day stamp) seen = Unit {0}
+Right book (Evaluation day quarter T lent) seen = Gives (bookResult book day quarter T) seen
+
+-- how many pairs a group has: each consumer with each producer that it names
+abbrev pub pairsIn : Registration → ℕ
+pairsIn r = sumBelow (countAt r) (r .consumers)
+
+-- two evaluations are equal in pair shares, remaining withdrawals, remaining supplies and round count
+pub record SameResult (r : Registration) (a b : Seen) : Type 0 where
+  pub shares : part 0 (pairsIn r) (a .result) ≡ part 0 (pairsIn r) (b .result)
+  pub withdrawals : part (pairsIn r) (r .consumers) (a .result) ≡ part (pairsIn r) (r .consumers) (b .result)
+  pub supplies : part (pairsIn r + r .consumers) (r .producers) (a .result) ≡ part (pairsIn r + r .consumers) (r .producers) (b .result)
+  pub rounds : a .number ≡ b .number
+
+-- every accepted submission returns the book's stamp, every accepted evaluation gives the book's result; any two accepted evaluations of one day and
+-- quarter as of one T, anywhere in the list, are equal; no call is refused by 15
+pub record Demand3 (r : Registration) (journal : List ℕ) (calls : List Call) : Type 0 where
+  pub each : AllRight refused bookAfter Right (newBook r) calls (seenOf r journal calls)
+  pub pairs : (i k day quarter T : ℕ) (lent lent′ : List ℕ) (a b : Seen)
+      → Made calls (seenOf r journal calls) i (Evaluation day quarter T lent) a → refused a ≡ false
+      → Made calls (seenOf r journal calls) k (Evaluation day quarter T lent′) b → refused b ≡ false
+      → SameResult r a b
+  pub undamaged : (i : ℕ) (call : Call) (a : Seen) → Made calls (seenOf r journal calls) i call a → a .verdict ≢ Refused Damaged
+
+-- the claim
+abbrev pub Demand3Holds : Type 0
+Demand3Holds = (r : Registration) → isDamaged r ≡ false → (journal : List ℕ) (calls : List Call) → Demand3 r journal calls

@@ -1,0 +1,60 @@
+-- A group as a service holds it, the calls on it, and what a caller sees of a call. The last stamp is not the group's own: it is handed in and
+-- handed back. Assumes nothing.
+use Prim.Native.Nat.{ℕ}
+use mathlib.Core.List.{List, []}
+use lib.IntN.{ℤ}
+use Rattle.answers.specs.declared.Verdict.{Verdict}
+use Rattle.registration.specs.declared.Registration.{Registration}
+use Rattle.journal.specs.Order.{Reading}
+use Rattle.journal.specs.Entries.{Entry, placeOf, readingsAt}
+use Rattle.service.specs.Points.{codesOf, indexOf}
+
+-- registration, kept stamp P, kept day K, the journal's entries, and how many numbers the journal has
+pub record Group : Type 0 where
+  pub registration : Registration
+  pub keptstamp : ℕ
+  pub keptday : ℕ
+  pub entries : List Entry
+  pub room : ℕ
+
+-- a fresh group: no entries, P = 0, K = 0
+abbrev pub freshGroup : Registration → (room : ℕ) → Group
+freshGroup r room =
+    record {
+      registration = r;
+      keptstamp = 0;
+      keptday = 0;
+      entries = [];
+      room = room;
+    }
+
+-- the codes by which the group's places are numbered
+abbrev pub rollOf : Group → List ℕ
+rollOf G = codesOf (G .registration)
+
+-- the place of a code, day and quarter
+abbrev pub placeFor : Group → (code day quarter : ℕ) → ℕ
+placeFor G code day quarter = placeOf (indexOf code (rollOf G)) day quarter
+
+-- the readings that the journal has for a code, day and quarter
+abbrev pub readingsOf : Group → (code day quarter : ℕ) → List Reading
+readingsOf G code day quarter = readingsAt (G .entries) (placeFor G code day quarter)
+
+-- the calls; an evaluation is lent a list for its result
+pub data Call : Type 0 where
+  Submission : (clock code day quarter : ℕ) → (value : ℤ) → Call
+  Clear : (day stamp : ℕ) → Call
+  Evaluation : (day quarter T : ℕ) → (lent : List ℕ) → Call
+
+-- what a caller sees of a call: the verdict; the number that it returns, which is a stamp, a dropped count or a round count, and 0 if it is refused;
+-- and the list lent for a result, as the call leaves it
+pub record Seen : Type 0 where
+  pub verdict : Verdict
+  pub number : ℕ
+  pub result : List ℕ
+
+-- what a call leaves: what is seen of it, the last stamp and the group
+pub record After : Type 0 where
+  pub seen : Seen
+  pub last : ℕ
+  pub group : Group

@@ -1,0 +1,32 @@
+-- What users of the service rely on beside demand 3, stated of its definitions; the proofs stand in proofs/Laws.antt. Assumes nothing.
+use Prim.Native.Nat.{ℕ}
+use mathlib.Core.Path.{_≡_}
+use mathlib.Core.Bool.{true, false}
+use mathlib.Core.List.{List, []}
+use lib.ListN.{length}
+use Rattle.service.specs.declared.Service.{Service}
+use Rattle.service.specs.Group.{Call, Submission, Clear, Evaluation}
+use Rattle.service.specs.Record.{callOn}
+use Rattle.service.specs.Demand3.{refused}
+
+-- the list that a call is lent for its result
+abbrev pub lentBy : Call → List ℕ
+lentBy (Submission clock code day quarter value) = []
+lentBy (Clear day stamp) = []
+lentBy (Evaluation day quarter T lent) = lent
+
+-- a refused call alters nothing and returns 0, whatever record and journal hold
+pub record Unaltered (s : Service) (j : List ℕ) (call : Call) : Type 0 where
+  pub service : callOn s j call .service ≡ s
+  pub journal : callOn s j call .journal ≡ j
+  pub result : callOn s j call .seen .result ≡ lentBy call
+  pub number : callOn s j call .seen .number ≡ 0
+
+abbrev pub RefusedAltersNothing : Type 0
+RefusedAltersNothing = (s : Service) (j : List ℕ) (call : Call) → refused (callOn s j call .seen) ≡ true → Unaltered s j call
+
+-- no call alters the journal's length, and none the registration
+abbrev pub LengthStays : Type 0
+LengthStays =
+    (s : Service) (j : List ℕ) (call : Call)
+    → (length (callOn s j call .journal) ≡ length j) × (callOn s j call .service .registration ≡ s .registration)
