@@ -1,8 +1,8 @@
 -- What the cores leave in record and journal is what the definitions say. Assumes nothing.
-use Prim.Native.Nat.{ℕ, _+_, _*_, _-_, _≤_, _<_}
+use Prim.Native.Nat.{ℕ, _+_, _*_, _-_, _≤_}
 use native.Mathlib.Omega.{arith}
-use mathlib.Core.Path.{_≡_, refl, sym, ap, _∙_}
-use mathlib.Core.Bool.{Bool, true, false}
+use mathlib.Core.Path.{_≡_, sym, ap, _∙_}
+use mathlib.Core.Bool.{true, false}
 use mathlib.Core.List.{List, [], _∷_, _++_}
 use lib.IntN.{ℤ, natAbs}
 use lib.ListN.{length, length-append}
@@ -20,18 +20,14 @@ use Rattle.allocation.specs.Working.{Allocated}
 use Rattle.allocation.proofs.Laws.{undamaged-is-shareable}
 use Rattle.evaluation.specs.Evaluation.{magnitudesIn}
 use Rattle.journal.specs.Damage.{Right}
-use Rattle.journal.specs.Value.{valueOf}
 use Rattle.journal.specs.Entries.{Entry, kept, keep}
 use Rattle.journal.proofs.Those.{length-those}
 use Rattle.journal.specs.Stored.{entries, numbers, written}
 use Rattle.journal.proofs.Stored.{length-entries, written-same, put-append}
 use Rattle.journal_clear.specs.Cleared.{Cleared as ClearedJournal}
 use Rattle.service.specs.declared.Service.{Service}
-use Rattle.service.specs.declared.State.{State}
 use Rattle.service.specs.declared.Looked.{Looked}
-use Rattle.service.specs.declared.Submitted.{Submitted}
-use Rattle.service.specs.declared.Cleared.{Cleared}
-use Rattle.service.specs.Group.{Group, Submission, Clear, Evaluation, placeFor}
+use Rattle.service.specs.Group.{Group}
 use Rattle.service.specs.Refusals.{damaged, repeats, submissionVerdict, clearVerdict, evaluationVerdict}
 use Rattle.service.specs.Calls.{nextStamp, entryOf, submitted, cleared, evaluated, step}
 use Rattle.service.specs.Record.{groupIn, stateOf, withState, callOn}
@@ -40,7 +36,7 @@ use Rattle.service.specs.Working.{Looks}
 use Rattle.service.proofs.Sound.{Sound, undamaged-sound}
 use Rattle.service.proofs.Undamaged.{few-points, right-of, fits-of}
 use Rattle.service.proofs.Own.{evaluation-own}
-use Rattle.service.proofs.Submissions.{Admitted, admitted}
+use Rattle.service.proofs.Submissions.{admitted}
 
 -- the record's changing part is that of the group it holds
 state-of : (s : Service) (j : List ℕ) → stateOf (s .state .last) (groupIn s j) ≡ s .state

@@ -1,25 +1,21 @@
 -- What is looked up for a submission: zeros where it is refused, and by the reading shown where it passes all tests but the last. Assumes nothing.
 use Prim.Native.Nat.{ℕ, _*_, _-_, _≤_, _<_}
-use mathlib.Core.Path.{_≡_, refl, sym, _∙_, ap}
-use mathlib.Core.Bool.{Bool, true, false, not, _&&_}
-use mathlib.Core.Logic.{_≢_}
-use mathlib.Core.Option.{Option, none, some}
+use mathlib.Core.Path.{_≡_, refl, sym}
+use mathlib.Core.Bool.{true, false, not, _&&_}
+use mathlib.Core.Option.{Option}
 use native.Mathlib.Omega.{arith}
 use lib.IntN.{ℤ, natAbs}
-use lib.Dec.{ltb, eqb}
 use lib.ListN.{length}
 use borrow.Author.Tests.{lt-ltb, le-ltb, eq-eqb, ne-eqb}
 use Rattle.answers.specs.declared.Refusal.{Refusal}
-use Rattle.answers.specs.declared.Verdict.{Verdict}
 use Rattle.answers.specs.declared.Refusal.the-variants.{JournalFull}
 use Rattle.answers.specs.declared.Verdict.the-variants.{Accepted, Refused}
 use Rattle.lists.proofs.Cases.{by-test}
-use Rattle.calendar.specs.Quarters.{quarterExists}
 use Rattle.journal.specs.declared.Found.{Found}
 use Rattle.journal.specs.declared.Found.the-variants.{Shown, Nothing}
-use Rattle.journal.specs.Value.{Value, valueIn, valueOf}
+use Rattle.journal.specs.Value.{valueIn, valueOf}
 use Rattle.journal.specs.Order.{Reading}
-use Rattle.journal.specs.Readings.{shown, sameAs, stampOf}
+use Rattle.journal.specs.Readings.{shown}
 use Rattle.journal.specs.Entries.{readingsAt}
 use Rattle.journal.specs.Found.{found}
 use Rattle.service.specs.declared.Looked.{Looked}
@@ -27,11 +23,10 @@ use Rattle.lists.proofs.TableLaws.{length-table}
 use Rattle.registration.specs.declared.Registration.{Registration}
 use Rattle.registration.specs.Rules.{points, codeAt}
 use Rattle.service.specs.Points.{codesOf, indexOf, has}
-use Rattle.service.specs.Group.{Group, rollOf, placeFor, readingsOf}
-use Rattle.service.specs.Refusals.{stampMost, damaged, signSuits, repeats, full, submissionVerdict}
+use Rattle.service.specs.Group.{Group, placeFor, readingsOf}
+use Rattle.service.specs.Refusals.{repeats, full, submissionVerdict}
 use Rattle.service.specs.Calls.{nextStamp, submitted, step}
 use Rattle.service.specs.Working.{refusedLook, newLook, settled, Looks}
-use Rattle.service.proofs.Verdicts.{submission-full, submission-accepted}
 
 pub never-accepted : {A : Type 0} (refusal : Refusal) → Refused refusal ≡ Accepted → A
 never-accepted refusal e = let z : _≡_ {A = ℕ} 0 1 = cc in absurd (omega arith)

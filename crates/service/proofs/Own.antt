@@ -13,14 +13,13 @@ use Rattle.lists.specs.Tables.{table}
 use Rattle.lists.proofs.Cases.{by-test}
 use Rattle.lists.proofs.Below.{every-at}
 use Rattle.lists.proofs.TableLaws.{length-table, table-at}
-use Rattle.registration.specs.declared.Registration.{Registration}
 use Rattle.registration.specs.Rules.{points, codeAt, statusAt, codesDiffer}
 use Rattle.journal.specs.Entries.{placeOf, readingsAt}
 use Rattle.allocation.specs.Result.{allocationOf}
 use Rattle.allocation.proofs.Laws.{allocation-same}
 use Rattle.evaluation.specs.Substitutes.{magnitudeOf}
 use Rattle.evaluation.specs.Evaluation.{evaluationOf, magnitudesIn}
-use Rattle.service.specs.Points.{codesOf, indexOf}
+use Rattle.service.specs.Points.{indexOf}
 use Rattle.service.specs.Group.{Group, readingsOf}
 use Rattle.service.proofs.SamePlace.{index-found}
 

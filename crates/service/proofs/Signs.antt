@@ -1,11 +1,11 @@
 -- The magnitude of an i64, as the machine reads it from its bits: a number below zero is `negsuc n`, and its magnitude, n + 1, is computed as the negation of the number plus one, which fits at the least i64 too. Assumes nothing.
 use mathlib.Core.Path.{_≡_, refl, sym, ap, subst, _∙_}
-use mathlib.Core.Bool.{Bool, true, false}
+use mathlib.Core.Bool.{true, false}
 use Prim.Native.Nat.{ℕ, zero, suc, _+_, _<_, _^_}
 use native.Mathlib.Omega.{arith}
 use borrow.Author.Tests.{ltb-true}
 use lib.Dec.{T}
-use lib.IntN.{ℤ, pos, negsuc, negℤ, natAbs, sucℤ, _+ℤ_, _-ℤ_, +ℤ-one, +ℤ-idl, negℤ-negℤ}
+use lib.IntN.{ℤ, pos, negsuc, negℤ, sucℤ, _+ℤ_, _-ℤ_, +ℤ-one, +ℤ-idl, negℤ-negℤ}
 use lib.Signed.{ltZ}
 use mir.Syntax.{w64}
 use mir.Val.{SFits, toZ, ofZ}

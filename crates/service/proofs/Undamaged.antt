@@ -1,13 +1,11 @@
 -- A group that is not sound is damaged, and past the other tests its entries tell. Assumes nothing.
-use Prim.Native.Nat.{ℕ, _*_, _≤_, _<_}
-use mathlib.Core.Path.{_≡_, refl, sym, _∙_}
-use mathlib.Core.Bool.{Bool, true, false, not, _||_, true≢false}
-use mathlib.Core.Logic.{_≢_}
+use Prim.Native.Nat.{ℕ, _*_, _≤_}
+use mathlib.Core.Path.{_≡_, sym}
+use mathlib.Core.Bool.{Bool, true, false, not}
 use native.Mathlib.Omega.{arith}
 use mathlib.Core.List.{List}
 use lib.ListN.{length}
-use lib.Dec.{ltb}
-use borrow.Author.Tests.{ltb-false, not-false, le-ltb}
+use borrow.Author.Tests.{le-ltb}
 use Rattle.lists.proofs.TableLaws.{length-table}
 use Rattle.registration.specs.Rules.{points, codeAt}
 use Rattle.registration.specs.Damage.{isDamaged}

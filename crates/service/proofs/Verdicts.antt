@@ -1,10 +1,9 @@
 -- The verdict on each call, every way through its order of refusals. Assumes nothing.
-use Prim.Native.Nat.{ℕ, _+_, _*_, _-_, _≤_, _<_}
-use mathlib.Core.Path.{_≡_, refl}
-use mathlib.Core.Bool.{Bool, true, false, not, _&&_}
+use Prim.Native.Nat.{ℕ, _-_, _≤_, _<_}
+use mathlib.Core.Path.{_≡_}
+use mathlib.Core.Bool.{true, false, not, _&&_}
 use mathlib.Core.List.{List}
 use lib.IntN.{ℤ, natAbs}
-use lib.Dec.{ltb, eqb}
 use lib.ListN.{length}
 use Rattle.answers.specs.declared.Verdict.the-variants.{Accepted, Refused}
 use Rattle.answers.specs.declared.Refusal.the-variants.{CodeNotInGroup, NoSuchDay, ValueWrong, DayCleared, StampOutside, ClockOutside, JournalFull, Damaged, TooShort}

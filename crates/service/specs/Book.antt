@@ -8,9 +8,9 @@ use lib.IntN.{ℤ}
 use lib.Dec.{eqb}
 use Rattle.registration.specs.declared.Registration.{Registration}
 use Rattle.allocation.specs.Result.{Allocation}
-use Rattle.journal.specs.Value.{Value, valueOf}
+use Rattle.journal.specs.Value.{valueOf}
 use Rattle.journal.specs.Order.{Reading}
-use Rattle.journal.specs.Readings.{those, strongest, shown, sameAs, stampOf}
+use Rattle.journal.specs.Readings.{those, strongest, sameAs, stampOf}
 use Rattle.evaluation.specs.Evaluation.{evaluationOf}
 use Rattle.service.specs.Group.{Call, Submission, Clear, Evaluation}
 use Rattle.service.specs.Calls.{nextStamp}

@@ -7,7 +7,7 @@ use lib.ListN.{length}
 use Rattle.answers.specs.declared.Verdict.{Verdict}
 use Rattle.answers.specs.declared.Verdict.the-variants.{Accepted, Refused}
 use Rattle.lists.specs.Place.{placed}
-use Rattle.allocation.specs.Result.{Allocation, numbersOf}
+use Rattle.allocation.specs.Result.{numbersOf}
 use Rattle.journal.specs.Value.{valueOf, storedOf}
 use Rattle.journal.specs.Readings.{shown, stampOf}
 use Rattle.journal.specs.Entries.{Entry, keep}

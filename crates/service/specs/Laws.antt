@@ -1,7 +1,7 @@
 -- What users of the service rely on beside demand 3, stated of its definitions; the proofs stand in proofs/Laws.antt. Assumes nothing.
 use Prim.Native.Nat.{ℕ}
 use mathlib.Core.Path.{_≡_}
-use mathlib.Core.Bool.{true, false}
+use mathlib.Core.Bool.{true}
 use mathlib.Core.List.{List, []}
 use lib.ListN.{length}
 use Rattle.service.specs.declared.Service.{Service}

@@ -12,7 +12,6 @@ use Rattle.answers.specs.declared.Refusal.the-variants.{CodeNotInGroup, NoSuchD
 use Rattle.answers.specs.Order.{refuse_if_else_}
 use Rattle.calendar.specs.Dates.{isDay}
 use Rattle.calendar.specs.Quarters.{quarterExists}
-use Rattle.registration.specs.declared.Registration.{Registration}
 use Rattle.registration.specs.Damage.{isDamaged}
 use Rattle.allocation.specs.Result.{sizeOf}
 use Rattle.journal.specs.Value.{valueOf}

@@ -2,14 +2,9 @@
 use mathlib.Core.Path.{refl, sym, _∙_}
 use Rattle.service.proofs.Undamaged.{few-points, right-of, fits-of}
 use Rattle.service.proofs.Cores.{clear-sound, kept-few, clears-refused, clears-accepted}
-use native.Mathlib.Omega.{arith}
 use borrow.Author.Needs.{needs}
 use Rattle.service.proofs.Service.clear_value.Statement.{statement}
 use Rattle.service.proofs.Service.clear_value.Tie as tie
-use Rattle.service.proofs.Service.clear_value.Reads as reads
-use Rattle.service.proofs.Service.clear_value.Lts as lts
-use Rattle.journal_clear.proofs.keep.Reads as keep-reads
-use Rattle.service.proofs.refusals.clear_verdict.Reads as clear-verdict-reads
 
 clear-verdict-requires : tie.Need-clear-verdict-requires
 clear-verdict-requires c κs = search needs

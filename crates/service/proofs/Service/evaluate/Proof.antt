@@ -1,14 +1,9 @@
 -- `service::Service::evaluate` meets its contract. Assumes nothing.
 use mathlib.Core.Path.{sym, _∙_}
 use Rattle.service.proofs.Cores.{evaluation-asked, evaluates-refused, evaluates-accepted}
-use native.Mathlib.Omega.{arith}
 use borrow.Author.Needs.{needs}
 use Rattle.service.proofs.Service.evaluate.Statement.{statement}
 use Rattle.service.proofs.Service.evaluate.Tie as tie
-use Rattle.service.proofs.Service.evaluate.Reads as reads
-use Rattle.service.proofs.Service.evaluate.Lts as lts
-use Rattle.evaluation.proofs.evaluate.Reads as evaluate-reads
-use Rattle.service.proofs.refusals.evaluation_verdict.Reads as evaluation-verdict-reads
 
 evaluation-verdict-requires : tie.Need-evaluation-verdict-requires
 evaluation-verdict-requires c κs = search needs

@@ -4,10 +4,6 @@ use Rattle.service.proofs.Begun.{fresh-refused, fresh-made}
 use borrow.Author.Needs.{needs}
 use Rattle.service.proofs.Service.fresh.Statement.{statement}
 use Rattle.service.proofs.Service.fresh.Tie as tie
-use Rattle.service.proofs.Service.fresh.Reads as reads
-use Rattle.service.proofs.Service.fresh.Lts as lts
-use Rattle.registration.proofs.Registration.empty.Reads as empty-reads
-use Rattle.registration_damage.proofs.damaged.Reads as damaged-reads
 
 damaged-requires : tie.Need-damaged-requires
 damaged-requires c κs = search needs

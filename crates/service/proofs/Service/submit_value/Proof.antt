@@ -7,11 +7,6 @@ use native.Mathlib.Omega.{arith}
 use borrow.Author.Needs.{needs}
 use Rattle.service.proofs.Service.submit_value.Statement.{statement}
 use Rattle.service.proofs.Service.submit_value.Tie as tie
-use Rattle.service.proofs.Service.submit_value.Reads as reads
-use Rattle.service.proofs.Service.submit_value.Lts as lts
-use Rattle.journal.proofs.put.Reads as put-reads
-use Rattle.service.proofs.refusals.look.Reads as look-reads
-use Rattle.service.proofs.value.magnitude.Reads as magnitude-reads
 
 -- what was looked up
 looked : (c : tie.After-look) → let a = c .before .before .before .before .args in

@@ -10,8 +10,6 @@ use borrow.Author.Needs.{needs}
 use native.Mathlib.Omega.{arith}
 use Rattle.service.proofs.codes.find.Statement.{statement}
 use Rattle.service.proofs.codes.find.Tie as tie
-use Rattle.service.proofs.codes.find.Reads as reads
-use Rattle.service.proofs.codes.find.Lts as lts
 
 -- the codes of the points
 abbrev codesIn : List ℕ → ℕ → List ℕ

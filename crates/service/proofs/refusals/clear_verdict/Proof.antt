@@ -8,9 +8,6 @@ use Rattle.service.proofs.Verdicts.{clear-damaged, clear-no-day, clear-
 use borrow.Author.Needs.{needs}
 use Rattle.service.proofs.refusals.clear_verdict.Statement.{statement}
 use Rattle.service.proofs.refusals.clear_verdict.Tie as tie
-use Rattle.service.proofs.refusals.clear_verdict.Reads as reads
-use Rattle.service.proofs.refusals.clear_verdict.Lts as lts
-use Rattle.service.proofs.refusals.damaged.Reads as damaged-reads
 
 -- past the first test nothing is damaged
 undamaged-there : (c : tie.Else1)

@@ -10,10 +10,6 @@ use native.Mathlib.Omega.{arith}
 use borrow.Author.Needs.{needs}
 use Rattle.service.proofs.refusals.damaged.Statement.{statement}
 use Rattle.service.proofs.refusals.damaged.Tie as tie
-use Rattle.service.proofs.refusals.damaged.Reads as reads
-use Rattle.service.proofs.refusals.damaged.Lts as lts
-use Rattle.journal.proofs.right.Reads as right-reads
-use Rattle.registration_damage.proofs.damaged.Reads as damaged-reads
 
 -- from where a test was passed back to where the first was
 abbrev past-first : tie.Else5 → tie.Else1

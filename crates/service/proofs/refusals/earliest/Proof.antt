@@ -2,12 +2,9 @@
 use Prim.Native.Nat.{ℕ, zero, suc, _+_}
 use mathlib.Core.Path.{_≡_, refl}
 use Rattle.service.specs.Refusals.{earliest}
-use native.Mathlib.Omega.{arith}
 use borrow.Author.Needs.{needs}
 use Rattle.service.proofs.refusals.earliest.Statement.{statement}
 use Rattle.service.proofs.refusals.earliest.Tie as tie
-use Rattle.service.proofs.refusals.earliest.Reads as reads
-use Rattle.service.proofs.refusals.earliest.Lts as lts
 
 -- with a kept day above 0 it is four weeks later
 earliest-some : (K : ℕ) → (K ≡ 0 → ⊥) → K + 28 ≡ earliest K

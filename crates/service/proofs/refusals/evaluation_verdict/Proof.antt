@@ -9,16 +9,9 @@ use Rattle.service.specs.Record.{groupIn}
 use Rattle.service.specs.Refusals.{damaged, earliest}
 use Rattle.service.proofs.Sound.{undamaged-sound}
 use Rattle.service.proofs.Verdicts.{evaluation-damaged, evaluation-no-day, evaluation-cleared, evaluation-below, evaluation-above, evaluation-short, evaluation-accepted}
-use native.Mathlib.Omega.{arith}
 use borrow.Author.Needs.{needs}
 use Rattle.service.proofs.refusals.evaluation_verdict.Statement.{statement}
 use Rattle.service.proofs.refusals.evaluation_verdict.Tie as tie
-use Rattle.service.proofs.refusals.evaluation_verdict.Reads as reads
-use Rattle.service.proofs.refusals.evaluation_verdict.Lts as lts
-use Rattle.allocation.proofs.size.Reads as size-reads
-use Rattle.calendar.proofs.exists.Reads as exists-reads
-use Rattle.service.proofs.refusals.damaged.Reads as damaged-reads
-use Rattle.service.proofs.refusals.earliest.Reads as earliest-reads
 
 -- past the first test nothing is damaged
 undamaged-there : (c : tie.Else1) → damaged (c .before .before .before .before .args .service .state .last) (groupIn (c .before .before .before .before .args .service) (c .before .before .before .before .args .journal .now)) ≡ false

@@ -24,17 +24,6 @@ use native.Mathlib.Omega.{arith}
 use borrow.Author.Needs.{needs}
 use Rattle.service.proofs.refusals.look.Statement.{statement}
 use Rattle.service.proofs.refusals.look.Tie as tie
-use Rattle.service.proofs.refusals.look.Reads as reads
-use Rattle.service.proofs.refusals.look.Lts as lts
-use Rattle.calendar.proofs.exists.Reads as exists-reads
-use Rattle.journal.proofs.place.Reads as place-reads
-use Rattle.journal.proofs.shown.Reads as shown-reads
-use Rattle.service.proofs.codes.find.Reads as find-reads
-use Rattle.service.proofs.refusals.damaged.Reads as damaged-reads
-use Rattle.service.proofs.refusals.refused.Reads as refused-reads
-use Rattle.service.proofs.refusals.settle.Reads as settle-reads
-use Rattle.service.proofs.value.magnitude.Reads as magnitude-reads
-use Rattle.service.proofs.value.sign_suits.Reads as sign-suits-reads
 
 -- from where a test was passed back to where the one before it was
 abbrev to-7 : tie.Else8 → tie.Else7

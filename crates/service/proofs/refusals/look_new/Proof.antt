@@ -3,10 +3,6 @@ use Rattle.service.proofs.Looking.{new-refused, new-accepted}
 use borrow.Author.Needs.{needs}
 use Rattle.service.proofs.refusals.look_new.Statement.{statement}
 use Rattle.service.proofs.refusals.look_new.Tie as tie
-use Rattle.service.proofs.refusals.look_new.Reads as reads
-use Rattle.service.proofs.refusals.look_new.Lts as lts
-use Rattle.service.proofs.refusals.next_stamp.Reads as next-stamp-reads
-use Rattle.service.proofs.refusals.refused.Reads as refused-reads
 
 refused-requires : tie.Need-refused-requires
 refused-requires c κs = search needs

@@ -3,9 +3,6 @@ use Rattle.service.proofs.Looking.{settled-none, settled-repeat, settle
 use borrow.Author.Needs.{needs}
 use Rattle.service.proofs.refusals.settle.Statement.{statement}
 use Rattle.service.proofs.refusals.settle.Tie as tie
-use Rattle.service.proofs.refusals.settle.Reads as reads
-use Rattle.service.proofs.refusals.settle.Lts as lts
-use Rattle.service.proofs.refusals.look_new.Reads as look-new-reads
 
 enum-told : tie.Need-enum-told
 enum-told c = search needs

@@ -4,8 +4,6 @@ use mir.Syntax.{w64}
 use mir.ValLaws.{toZ-ofZ}
 use Rattle.service.proofs.value.sign_suits.Statement.{statement}
 use Rattle.service.proofs.value.sign_suits.Tie as tie
-use Rattle.service.proofs.value.sign_suits.Reads as reads
-use Rattle.service.proofs.value.sign_suits.Lts as lts
 
 returns : tie.Need-returns
 returns c =
