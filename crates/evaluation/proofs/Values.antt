@@ -1,8 +1,8 @@
 -- What a point's readings show once one more entry has come, which is the newest. Assumes nothing.
 use Prim.Native.Nat.{ℕ, _+_, _-_, _*_, _≤_}
-use mathlib.Core.Path.{_≡_, _∙_}
-use mathlib.Core.Bool.{true, false, cond, _&&_}
-use mathlib.Core.List.{List, [], _∷_, _++_, append-nil}
+use mathlib.Core.Path.{_≡_, refl, sym}
+use mathlib.Core.Bool.{Bool, true, false, cond, _&&_}
+use mathlib.Core.List.{List, [], _∷_, _++_}
 use mathlib.Core.Option.{Option, none, some}
 use lib.Dec.{leb, eqb}
 use borrow.Author.Tests.{leb-true, leb-false, le-leb, lt-leb}
@@ -10,40 +10,28 @@ use Rattle.lists.proofs.Cases.{by-test}
 use Rattle.lists.proofs.Below.{and-late}
 use Rattle.journal.specs.Value.{Value, valueIn}
 use Rattle.journal.specs.Readings.{shown, valueShown}
-use Rattle.journal.specs.Entries.{Entry, placeOf, readingOf, readingsAt}
-use Rattle.journal.proofs.ShownLaws.{Rising, shown-nil, shown-late}
-use Rattle.journal.proofs.Kept.{readings-append}
-use Rattle.journal.proofs.Back.{shown-last}
+use Rattle.journal.specs.Entries.{Entry, placeOf, readingsAt}
+use Rattle.journal.proofs.ShownLaws.{Rising, shown-nil}
+use Rattle.journal.proofs.Back.{last-shows, last-misses}
 use Rattle.evaluation.specs.Earlier.{earlier}
 use Rattle.evaluation.specs.Substitutes.{valueAt}
 use Rattle.evaluation.specs.Working.{isAt}
 use Rattle.evaluation.proofs.Places.{week-fits, week-none, week-place}
 
--- the readings of a place once one more entry has come
-readings-here : (es : List Entry) (e : Entry) (place : ℕ) → eqb (e .place) place ≡ true
-    → readingsAt (es ++ (e ∷ [])) place ≡ readingsAt es place ++ (readingOf e ∷ [])
-readings-here es e place t = readings-append es (e ∷ []) place ∙ rw t
+-- two tests that both hold, or do not, in either order
+both-ways : (a b : Bool) → a && b ≡ b && a
+both-ways true b = by-test b (λ t. rw t) (λ t. rw t)
+both-ways false b = sym (and-late b false refl)
 
-readings-elsewhere : (es : List Entry) (e : Entry) (place : ℕ) → eqb (e .place) place ≡ false
-    → readingsAt (es ++ (e ∷ [])) place ≡ readingsAt es place
-readings-elsewhere es e place f = readings-append es (e ∷ []) place ∙ rw f (append-nil (readingsAt es place))
-
--- what is shown at a place then
+-- what is shown at a place once one more entry has come
 module _ (T : ℕ) (es : List Entry) (e : Entry) (place : ℕ) (rising : Rising 0 (readingsAt (es ++ (e ∷ [])) place)) where
   shown-then : valueShown (shown T (readingsAt (es ++ (e ∷ [])) place))
       ≡ cond (leb (e .stamp) T && eqb (e .place) place) (some (valueIn (e .stored))) (valueShown (shown T (readingsAt es place)))
   shown-then =
-      by-test (eqb (e .place) place)
-      (λ t.
-      let here = readings-here es e place t in
-      by-test (leb (e .stamp) T)
-      (λ l.
-      let top = shown-last T 0 (readingsAt es place) (readingOf e) (rw here at rising) (leb-true (e .stamp) T l) in
-      rw (here, top, l, t))
-      (λ l.
-      let late = shown-late T (readingsAt es place) (readingOf e) (leb-false (e .stamp) T l) in
-      rw (here, late, l)))
-      (λ f. rw (readings-elsewhere es e place f, and-late (leb (e .stamp) T) _ f))
+      rw (both-ways (leb (e .stamp) T) (eqb (e .place) place))
+      (by-test (eqb (e .place) place && leb (e .stamp) T)
+      (λ t. rw (last-shows T place es e rising t, t))
+      (λ f. rw (last-misses T place es e f, f)))
 
 -- what is shown of a point so many weeks before then
 module _ (T day quarter : ℕ) (h : 1 ≤ quarter) (k : quarter ≤ 100) (es : List Entry) (point week : ℕ) where

@@ -67,7 +67,7 @@ module _ (T p : ℕ) (es : List Entry) (e : Entry) where
   last-elsewhere : eqb (e .place) p ≡ false → readingsAt (es ++ (e ∷ [])) p ≡ readingsAt es p
   last-elsewhere t = rw (readings-append es (e ∷ []) p, t) (append-nil (readingsAt es p))
 
-  last-misses : eqb (e .place) p && leb (e .stamp) T ≡ false → shown T (readingsAt (es ++ (e ∷ [])) p) ≡ shown T (readingsAt es p)
+  pub last-misses : eqb (e .place) p && leb (e .stamp) T ≡ false → shown T (readingsAt (es ++ (e ∷ [])) p) ≡ shown T (readingsAt es p)
   last-misses h =
       by-test (eqb (e .place) p)
       (λ t.
@@ -75,7 +75,7 @@ module _ (T p : ℕ) (es : List Entry) (e : Entry) where
       rw (last-here t) (shown-late T (readingsAt es p) (readingOf e) (leb-false (e .stamp) T late)))
       (λ t. rw (last-elsewhere t))
 
-  last-shows : Rising 0 (readingsAt (es ++ (e ∷ [])) p) → eqb (e .place) p && leb (e .stamp) T ≡ true
+  pub last-shows : Rising 0 (readingsAt (es ++ (e ∷ [])) p) → eqb (e .place) p && leb (e .stamp) T ≡ true
       → shown T (readingsAt (es ++ (e ∷ [])) p) ≡ some (readingOf e)
   last-shows r h =
       let here = last-here (and-left (eqb (e .place) p) (leb (e .stamp) T) h) in

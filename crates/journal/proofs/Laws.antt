@@ -1,8 +1,8 @@
 -- What users of the journal rely on. Assumes nothing.
-use Prim.Native.Nat.{ℕ, _≤_}
+use Prim.Native.Nat.{ℕ}
 use mathlib.Core.Path.{_≡_}
 use mathlib.Core.Bool.{true, false, _||_, false≢true}
-use mathlib.Core.List.{List, List·Memᴰ}
+use mathlib.Core.List.{List}
 use mathlib.Core.Option.{Option, none, some}
 use native.Mathlib.Omega.{arith}
 use lib.Dec.{leb, ltb}
@@ -11,8 +11,8 @@ use Rattle.lists.proofs.Cases.{by-test, by-option}
 use Rattle.lists.proofs.Below.{and-left, and-right}
 use Rattle.journal.specs.Order.{Reading, weaker}
 use Rattle.journal.specs.Readings.{shown, hasStamp}
-use Rattle.journal.specs.Entries.{Entry, dayIn, readingsAt, kept, keep}
-use Rattle.journal.specs.Laws.{IsNewest, ShowsNewest, ShownIsNewest, PlaceTells, KeepShows, WrittenIsRead}
+use Rattle.journal.specs.Entries.{dayIn, readingsAt, kept, keep}
+use Rattle.journal.specs.Laws.{IsNewest, ShowsNewest, ShownIsNewest, PlaceTells, KeepShows, KeepsNoOlder, WrittenIsRead}
 use Rattle.journal.proofs.Those.{those-pass}
 use Rattle.journal.proofs.Literal.{Tells, shown-tells}
 use Rattle.journal.proofs.PlaceLaws.{pointIn-place, dayIn-place, quarterIn-place}
@@ -37,11 +37,9 @@ pub keep-shows : KeepShows
 keep-shows K P T place es r k l =
     shown-keep K P T place es k l (right-rising (r .points) (r .keptday) (r .last) place 0 0 (omega arith) es (r .right))
 
--- what a clear with K and P keeps has a day of at least K, and no reading of its place up to P is newer
-pub kept-newest : (K P : ℕ) (es : List Entry) (e : Entry) → List·Memᴰ e (keep K P es)
-    → (K ≤ dayIn (e .place)) × ((r : Reading) → List·Memᴰ r (readingsAt es (e .place)) → r .stamp ≤ P → r .stamp ≤ e .stamp)
+pub keeps-no-older : KeepsNoOlder
 unfolding keep
-kept-newest K P es e m =
+keeps-no-older K P es e m =
     let rs = readingsAt es (e .place) in
     let day = leb K (dayIn (e .place)) in
     let t : kept K P es e ≡ true = those-pass (kept K P es) e es m in

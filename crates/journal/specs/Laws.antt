@@ -36,6 +36,12 @@ KeepShows =
     (K P T place : ℕ) (es : List Entry) → Right es → K ≤ dayIn place → P ≤ T
     → shown T (readingsAt (keep K P es) place) ≡ shown T (readingsAt es place)
 
+-- a clear keeps no entry that it could drop: none has a day below K, and of a place none older than the reading shown at P
+abbrev pub KeepsNoOlder : Type 0
+KeepsNoOlder =
+    (K P : ℕ) (es : List Entry) (e : Entry) → List·Memᴰ e (keep K P es)
+    → (K ≤ dayIn (e .place)) × ((r : Reading) → List·Memᴰ r (readingsAt es (e .place)) → r .stamp ≤ P → r .stamp ≤ e .stamp)
+
 -- what is written is read again
 abbrev pub WrittenIsRead : Type 0
 WrittenIsRead = (es : List Entry) (emptied : ℕ) (j : List ℕ) → entries (length es) (written es emptied j) ≡ es

@@ -1,33 +1,17 @@
--- Entries moved to the front: what stands before and behind numbers that were put, and one turn of the moving. Assumes nothing.
+-- Entries moved to the front: one turn of the moving. Assumes nothing.
 use Prim.Native.Nat.{ℕ, _+_, _*_, _-_, _≤_, _<_}
 use mathlib.Core.Path.{_≡_, refl, sym, ap, _∙_}
 use mathlib.Core.Bool.{true, false}
 use mathlib.Core.List.{List, _++_, append-assoc, append-nil}
 use native.Mathlib.Omega.{arith}
-use lib.ListN.{length, take, drop, length-append}
-use lib.Seq.{take-at, drop-at, drop-drop, length-take-le}
+use lib.ListN.{length, take, drop}
 use Rattle.lists.specs.Place.{placed}
+use Rattle.lists.proofs.PlaceLaws.{take-placed, drop-placed}
 use Rattle.journal.specs.Readings.{those}
 use Rattle.journal.specs.Stored.{entries, entryAt, numbers, flat}
 use Rattle.journal.proofs.Stored.{rest, rest-start, rest-step, rest-end}
 use Rattle.journal_clear.specs.Marks.{isLeft, Compacted}
 
--- ---- numbers that were put
-module _ (at : ℕ) (put list : List ℕ) (h : at + length put ≤ length list) where
-  front : length (take at list ++ put) ≡ at + length put
-  front = let l : length (take at list) ≡ at = length-take-le at list (omega arith) in rw (length-append, l)
-
-  pub take-placed : take (at + length put) (placed at put list) ≡ take at list ++ put
-  unfolding placed
-  take-placed = rw (← append-assoc) (take-at _ _ _ front)
-
-  pub drop-placed : (n : ℕ) → at + length put ≤ n → drop n (placed at put list) ≡ drop n list
-  unfolding placed
-  drop-placed n m =
-      let s : at + length put + (n - (at + length put)) ≡ n = omega arith in
-      rw (← s, ← drop-drop (n - (at + length put)) (at + length put) (placed at put list), ← append-assoc, drop-at _ _ _ front, drop-drop)
-
--- ---- one turn
 module _ (K count : ℕ) where
   -- the entries at the front, and those that have still to move
   abbrev moved-and-left : List ℕ → ℕ → ℕ → List ℕ

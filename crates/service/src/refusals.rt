@@ -33,7 +33,7 @@ pub fn damaged(service: Service, journal: &[u64]) -> bool
         return true;
     }
     let count = state.entries;
-    if journal.len() / 3 < count {
+    if journal.len() / journal::ENTRY < count {
         return true;
     }
     let points = registration.producers + registration.consumers;
@@ -69,7 +69,7 @@ fn look_new(left: usize, clock: u64, last: u64, place: u64) -> Looked
     requires { ⌜ last ≤ 999999999999 ⌝ }
     ensures { λ r. ⌜ r ≡ newLook left clock last place ⌝ }
 {
-    if left < 3 {
+    if left < journal::ENTRY {
         return refused(Refusal::JournalFull);
     }
     let stamp = next_stamp(clock, last);
@@ -149,7 +149,7 @@ pub fn look(
     let count = state.entries;
     let place = journal::place(point as u64, day, quarter);
     let found = journal::shown(journal, count, place, last);
-    let left = journal.len() - 3 * count;
+    let left = journal.len() - journal::ENTRY * count;
     settle(found, magnitude, left, clock, last, place)
 }
 
