@@ -27,7 +27,9 @@ keep-requires c κs =
     (fits-of _ _ s, right-of _ _ (few-points _ _ s) s)
 
 sub-dropped : tie.Need-sub-dropped
-sub-dropped c = rw (c .before .before .keep .ensures .number) (kept-few (c .before .before .before .before .before .before .before .before .before .before .args .day) (c .before .before .before .before .before .before .before .before .before .before .args .stamp) (c .before .before .before .before .before .before .before .before .before .before .args .self .state .entries) (c .before .before .before .before .before .before .before .before .before .before .args .journal .now))
+sub-dropped c =
+    let a = c .before .before .before .before .before .before .before .before .before .before .args in
+    rw (c .before .before .keep .ensures .number) (kept-few (a .day) (a .stamp) (a .self .state .entries) (a .journal .now))
 
 same-length-2 : tie.Need-same-length-2
 same-length-2 c = search needs

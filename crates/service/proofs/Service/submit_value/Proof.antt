@@ -44,7 +44,8 @@ put-requires c κs = new-fits _ _ _ _ _ _ _ _ (looked (c .before .before .before
 
 add-entries : tie.Need-add-entries
 add-entries c =
-    let room = new-fits _ _ _ _ _ _ _ _ (looked (c .before .before .before .before .before .before .before .before)) (search) (c .before .before .before .before .before .if1 .left) in
+    let past = c .before .before .before .before .before in
+    let room = new-fits _ _ _ _ _ _ _ _ (looked (past .before .before .before)) (search) (past .if1 .left) in
     omega (arith, room)
 
 same-length-3 : tie.Need-same-length-3
@@ -52,8 +53,11 @@ same-length-3 c = search needs
 
 returns-3 : tie.Need-returns-3
 returns-3 c =
-    submits-new _ _ _ _ _ _ _ _ (looked (c .before .before .before .before .before .before .before .before)) (search) (c .before .before .before .before .magnitude .result) _ (c .before .before .before .before .before .if1 .left)
-    (magnitude-told _ (c .before .before .before .before .before .before .before .before .before .before .before .before .fits .value) (c .before .before .before .before .magnitude .ensures)) (c .before .before .put .ensures)
+    let past = c .before .before .before .before .before in
+    let look = past .before .before .before in
+    let magnitude = c .before .before .before .before in
+    submits-new _ _ _ _ _ _ _ _ (looked look) (search) (magnitude .magnitude .result) _ (past .if1 .left)
+    (magnitude-told _ (look .before .before .before .before .fits .value) (magnitude .magnitude .ensures)) (c .before .before .put .ensures)
 
 pub submit-value-spec : {M : Type 1} → statement M
 submit-value-spec =

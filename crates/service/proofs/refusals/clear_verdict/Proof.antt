@@ -9,9 +9,21 @@ use borrow.Author.Needs.{needs}
 use Rattle.service.proofs.refusals.clear_verdict.Statement.{statement}
 use Rattle.service.proofs.refusals.clear_verdict.Tie as tie
 
+-- where a test was passed: from there back to where the one before it was, and to where the call began
+abbrev begin-1 : tie.Else1 → tie.Start
+begin-1 c = c .before .before .before
+
+abbrev to-1 : tie.Else2 → tie.Else1
+to-1 c = c .before .before
+
+abbrev to-2 : tie.Else3 → tie.Else2
+to-2 c = c .before .before
+
+abbrev to-3 : tie.Else4 → tie.Else3
+to-3 c = c .before .before
+
 -- past the first test nothing is damaged
-undamaged-there : (c : tie.Else1)
-    → damaged (c .before .before .before .args .service .state .last) (groupIn (c .before .before .before .args .service) (c .before .before .before .args .journal .now)) ≡ false
+undamaged-there : (c : tie.Else1) → let a = begin-1 c .args in damaged (a .service .state .last) (groupIn (a .service) (a .journal .now)) ≡ false
 undamaged-there c = sym (c .before .damaged .ensures) ∙ c .if1 .left
 
 damaged-requires : tie.Need-damaged-requires
@@ -21,19 +33,29 @@ returns : tie.Need-returns
 returns c = clear-damaged _ _ _ _ (sym (c .before .damaged .ensures) ∙ c .if1 .taken)
 
 returns-2 : tie.Need-returns-2
-returns-2 c = clear-no-day _ _ _ _ (undamaged-there (c .before .before)) (lt-leb _ _ (c .if2 .taken))
+returns-2 c =
+    let past = c .before .before in
+    clear-no-day _ _ _ _ (undamaged-there past) (lt-leb _ _ (c .if2 .taken))
 
 returns-3 : tie.Need-returns-3
-returns-3 c = clear-cleared _ _ _ _ (undamaged-there (c .before .before .before .before)) (le-leb _ _ (c .before .before .if2 .left)) (c .if3 .taken)
+returns-3 c =
+    let past = c .before .before in
+    clear-cleared _ _ _ _ (undamaged-there (to-1 past)) (le-leb _ _ (past .if2 .left)) (c .if3 .taken)
 
 returns-4 : tie.Need-returns-4
-returns-4 c = clear-below _ _ _ _ (undamaged-there (c .before .before .before .before .before .before)) (le-leb _ _ (c .before .before .before .before .if2 .left)) (c .before .before .if3 .left) (c .if4 .taken)
+returns-4 c =
+    let past = c .before .before in
+    clear-below _ _ _ _ (undamaged-there (to-1 (to-2 past))) (le-leb _ _ ((to-2 past) .if2 .left)) (past .if3 .left) (c .if4 .taken)
 
 returns-5 : tie.Need-returns-5
-returns-5 c = clear-above _ _ _ _ (undamaged-there (c .before .before .before .before .before .before .before .before)) (le-leb _ _ (c .before .before .before .before .before .before .if2 .left)) (c .before .before .before .before .if3 .left) (c .before .before .if4 .left) (c .if5 .taken)
+returns-5 c =
+    let past = c .before .before in
+    clear-above _ _ _ _ (undamaged-there (to-1 (to-2 (to-3 past)))) (le-leb _ _ ((to-2 (to-3 past)) .if2 .left)) ((to-3 past) .if3 .left) (past .if4 .left) (c .if5 .taken)
 
 returns-6 : tie.Need-returns-6
-returns-6 c = clear-accepted _ _ _ _ (undamaged-there (c .before .before .before .before .before .before .before .before)) (le-leb _ _ (c .before .before .before .before .before .before .if2 .left)) (c .before .before .before .before .if3 .left) (c .before .before .if4 .left) (c .if5 .left)
+returns-6 c =
+    let past = c .before .before in
+    clear-accepted _ _ _ _ (undamaged-there (to-1 (to-2 (to-3 past)))) (le-leb _ _ ((to-2 (to-3 past)) .if2 .left)) ((to-3 past) .if3 .left) (past .if4 .left) (c .if5 .left)
 
 pub clear-verdict-spec : {M : Type 1} → statement M
 clear-verdict-spec =
