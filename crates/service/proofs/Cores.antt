@@ -20,8 +20,7 @@ use Rattle.allocation.specs.Working.{Allocated}
 use Rattle.allocation.proofs.Laws.{undamaged-is-shareable}
 use Rattle.evaluation.specs.Evaluation.{magnitudesIn}
 use Rattle.journal.specs.Damage.{Right}
-use Rattle.journal.specs.Entries.{Entry, kept, keep}
-use Rattle.journal.proofs.Those.{length-those}
+use Rattle.journal.specs.Entries.{Entry}
 use Rattle.journal.specs.Stored.{entries, numbers, written}
 use Rattle.journal.proofs.Stored.{length-entries, written-same, put-append}
 use Rattle.journal_clear.specs.Cleared.{Cleared as ClearedJournal}
@@ -122,10 +121,6 @@ pub clear-sound : (s : Service) (j : List ℕ) (day stamp : ℕ) → clearVerdic
     → Sound (s .state .last) (groupIn s j)
 unfolding clearVerdict
 clear-sound s j day stamp e = undamaged-sound _ _ (passed _ _ _ e .0)
-
-pub kept-few : (day stamp count : ℕ) (j : List ℕ) → length (keep day stamp (entries count j)) ≤ count
-unfolding keep
-kept-few day stamp count j = omega (arith, length-those (kept day stamp (entries count j)) (entries count j), length-entries count j)
 
 module _ (s : Service) (j : List ℕ) (day stamp : ℕ) where
   pub clears-refused : (verdict : Verdict) (refusal : Refusal) → verdict ≡ clearVerdict (s .state .last) (groupIn s j) day stamp → verdict ≡ Refused refusal

@@ -1,7 +1,11 @@
 -- `service::Service::clear_value` meets its contract. Assumes nothing.
+use native.Mathlib.Omega.{arith}
 use mathlib.Core.Path.{refl, sym, _∙_}
+use Rattle.journal.proofs.Stored.{length-entries}
+use Rattle.service.specs.Record.{groupIn}
 use Rattle.service.proofs.Undamaged.{few-points, right-of, fits-of}
-use Rattle.service.proofs.Cores.{clear-sound, kept-few, clears-refused, clears-accepted}
+use Rattle.service.proofs.Clearings.{length-keep}
+use Rattle.service.proofs.Cores.{clear-sound, clears-refused, clears-accepted}
 use borrow.Author.Needs.{needs}
 use Rattle.service.proofs.Service.clear_value.Statement.{statement}
 use Rattle.service.proofs.Service.clear_value.Tie as tie
@@ -29,7 +33,7 @@ keep-requires c κs =
 sub-dropped : tie.Need-sub-dropped
 sub-dropped c =
     let a = c .before .before .before .before .before .before .before .before .before .before .args in
-    rw (c .before .before .keep .ensures .number) (kept-few (a .day) (a .stamp) (a .self .state .entries) (a .journal .now))
+    omega (arith, c .before .before .keep .ensures .number, length-keep (groupIn (a .self) (a .journal .now)) (a .day) (a .stamp), length-entries (a .self .state .entries) (a .journal .now))
 
 same-length-2 : tie.Need-same-length-2
 same-length-2 c = search needs
