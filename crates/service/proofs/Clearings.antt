@@ -15,7 +15,7 @@ use Rattle.journal.proofs.Those.{length-those}
 use Rattle.journal.proofs.PlaceLaws.{dayIn-place}
 use Rattle.journal.proofs.Kept.{shown-keep}
 use Rattle.journal.proofs.Entries.{right-rising, right-those}
-use Rattle.service.specs.Points.{indexOf}
+use Rattle.points.specs.Points.{indexOf}
 use Rattle.service.specs.Group.{Group, rollOf, placeFor}
 use Rattle.service.specs.Refusals.{clearVerdict}
 use Rattle.service.specs.Calls.{clearedGroup, cleared}

@@ -16,8 +16,6 @@ pub mod ReadAgain
 pub mod Laws
 pub mod Joint
 pub mod Demand3
-pub mod Signs
-pub mod Search
 pub mod Begun
 pub mod Verdicts
 pub mod Looking

@@ -22,7 +22,7 @@ use Rattle.service.specs.declared.Looked.{Looked}
 use Rattle.lists.proofs.TableLaws.{length-table}
 use Rattle.registration.specs.declared.Registration.{Registration}
 use Rattle.registration.specs.Rules.{points, codeAt}
-use Rattle.service.specs.Points.{codesOf, indexOf, has}
+use Rattle.points.specs.Points.{codesOf, indexOf, has}
 use Rattle.service.specs.Group.{Group, placeFor, readingsOf}
 use Rattle.service.specs.Refusals.{repeats, full, submissionVerdict}
 use Rattle.service.specs.Calls.{nextStamp, submitted, step}

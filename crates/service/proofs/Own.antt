@@ -19,7 +19,7 @@ use Rattle.allocation.specs.Result.{allocationOf}
 use Rattle.allocation.proofs.Laws.{allocation-same}
 use Rattle.evaluation.specs.Substitutes.{magnitudeOf}
 use Rattle.evaluation.specs.Evaluation.{evaluationOf, magnitudesIn}
-use Rattle.service.specs.Points.{indexOf}
+use Rattle.points.specs.Points.{indexOf}
 use Rattle.service.specs.Group.{Group, readingsOf}
 use Rattle.service.proofs.SamePlace.{index-found}
 

@@ -12,7 +12,7 @@ use Rattle.lists.proofs.Cases.{by-test}
 use Rattle.lists.proofs.Below.{and-left, and-right}
 use Rattle.journal.specs.Entries.{placeOf}
 use Rattle.journal.proofs.PlaceLaws.{pointIn-place, dayIn-place, quarterIn-place}
-use Rattle.service.specs.Points.{indexOf}
+use Rattle.points.specs.Points.{indexOf}
 
 -- a code that is in a list stands at its index
 pub index-found : (code : ℕ) (xs : List ℕ) → indexOf code xs < length xs → getD xs (indexOf code xs) 0 ≡ code

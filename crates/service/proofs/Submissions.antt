@@ -22,7 +22,7 @@ use Rattle.journal.proofs.PlaceLaws.{pointIn-place, dayIn-place, quarterIn-plac
 use Rattle.journal.proofs.ShownLaws.{shown-snoc}
 use Rattle.journal.proofs.Kept.{readings-append}
 use Rattle.journal.proofs.Entries.{right-snoc}
-use Rattle.service.specs.Points.{indexOf}
+use Rattle.points.specs.Points.{indexOf}
 use Rattle.service.specs.Group.{Group, rollOf, placeFor, readingsOf}
 use Rattle.service.specs.Refusals.{stampMost, repeats, submissionVerdict}
 use Rattle.service.specs.Calls.{nextStamp, withEntry, entryOf, submitted}

@@ -9,7 +9,7 @@ use mir.Val.{SFits, toZ, ofZ}
 use mir.ValLaws.{toZ-ofZ}
 use Rattle.service.specs.declared.Service.{Service}
 use Rattle.service.specs.declared.Looked.{Looked}
-use Rattle.service.specs.Refusals.{signSuits}
+use Rattle.points.specs.Points.{signSuits}
 use Rattle.service.specs.Record.{groupIn}
 use Rattle.service.specs.Working.{Looks}
 

@@ -11,9 +11,9 @@ use Rattle.answers.proofs.Refusals.{refusals}
 use Rattle.calendar.specs.Dates.{isDay}
 use Rattle.calendar.specs.Quarters.{quarterExists}
 use Rattle.allocation.specs.Result.{sizeOf}
-use Rattle.service.specs.Points.{indexOf, has}
+use Rattle.points.specs.Points.{indexOf, has, signSuits}
 use Rattle.service.specs.Group.{Group, rollOf}
-use Rattle.service.specs.Refusals.{damaged, signSuits, repeats, full, earliest, stampMost, submissionVerdict, clearVerdict, evaluationVerdict}
+use Rattle.service.specs.Refusals.{damaged, repeats, full, earliest, stampMost, submissionVerdict, clearVerdict, evaluationVerdict}
 
 module _ (last : ℕ) (G : Group) (clock code day quarter : ℕ) (value : ℤ) where
   pub submission-damaged : damaged last G ≡ true → Refused Damaged ≡ submissionVerdict last G clock code day quarter value

@@ -7,7 +7,7 @@ use Rattle.answers.specs.declared.Verdict.{Verdict}
 use Rattle.registration.specs.declared.Registration.{Registration}
 use Rattle.journal.specs.Order.{Reading}
 use Rattle.journal.specs.Entries.{Entry, placeOf, readingsAt}
-use Rattle.service.specs.Points.{codesOf, indexOf}
+use Rattle.points.specs.Points.{codesOf, indexOf}
 
 -- registration, kept stamp P, kept day K, the journal's entries, and how many numbers the journal has
 pub record Group : Type 0 where

@@ -1,4 +1,3 @@
-pub mod Points
 pub mod Group
 pub mod Refusals
 pub mod Calls

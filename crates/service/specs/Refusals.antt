@@ -1,9 +1,8 @@
 -- The refusals of submission, clear and evaluation, each in the paper's order. Assumes nothing.
 use Prim.Native.Nat.{ℕ, zero, suc, _+_, _*_, _-_}
-use mathlib.Core.Bool.{Bool, cond, not, _&&_, _||_}
+use mathlib.Core.Bool.{Bool, not, _&&_, _||_}
 use mathlib.Core.List.{List}
 use lib.IntN.{ℤ, natAbs}
-use lib.Signed.{leZ}
 use lib.Dec.{ltb, eqb}
 use lib.ListN.{length}
 use Rattle.answers.specs.declared.Verdict.{Verdict}
@@ -17,7 +16,7 @@ use Rattle.allocation.specs.Result.{sizeOf}
 use Rattle.journal.specs.Value.{valueOf}
 use Rattle.journal.specs.Readings.{shown, sameAs}
 use Rattle.journal.specs.Damage.{entriesRight}
-use Rattle.service.specs.Points.{indexOf, has}
+use Rattle.points.specs.Points.{indexOf, has, signSuits}
 use Rattle.service.specs.Group.{Group, rollOf, readingsOf}
 
 -- the greatest stamp and clock
@@ -30,10 +29,6 @@ unfoldable pub damaged : (last : ℕ) → Group → Bool
 damaged last G =
     isDamaged (G .registration) || ltb last (G .keptstamp) || ltb stampMost last || ltb 27758 (G .keptday)
     || ltb (G .room) (3 * length (G .entries)) || not (entriesRight (length (rollOf G)) (G .keptday) last 0 (G .entries))
-
--- supplies arrive as positive numbers, withdrawals as negative, and 0 suits either; the producers are the first points
-abbrev pub signSuits : (producers point : ℕ) → ℤ → Bool
-signSuits producers point value = cond (ltb point producers) (leZ (ℤ.pos 0) value) (leZ value (ℤ.pos 0))
 
 -- the submission repeats the reading shown at the last stamp
 abbrev pub repeats : (last : ℕ) → Group → (code day quarter : ℕ) → ℤ → Bool

@@ -6,9 +6,7 @@ use answers::Refusal;
 use answers::Verdict;
 use registration::Registration;
 
-mod codes;
 mod refusals;
-mod value;
 
 // What changes of the record: the last stamp given, kept stamp P, kept day K, and how many entries the journal has.
 #[repr(C)]
@@ -132,7 +130,7 @@ impl Service {
         let count = state.entries;
         let kept_stamp = state.kept_stamp;
         let kept_day = state.kept_day;
-        let magnitude = value::magnitude(value);
+        let magnitude = points::magnitude(value);
         journal::put(journal, count, stamp, looked.place, magnitude);
         let entries = count + 1;
         SubmitStep {

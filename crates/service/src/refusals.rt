@@ -122,7 +122,7 @@ pub fn look(
     let producers = registration.producers;
     let points = producers + registration.consumers;
     let codes = registration.codes;
-    let point = crate::codes::find(&codes, points, code);
+    let point = points::find(&codes, points, code);
     if point >= points {
         return refused(Refusal::CodeNotInGroup);
     }
@@ -132,10 +132,10 @@ pub fn look(
     if day < state.kept_day {
         return refused(Refusal::DayCleared);
     }
-    if !crate::value::sign_suits(value, point, producers) {
+    if !points::sign_suits(value, point, producers) {
         return refused(Refusal::ValueWrong);
     }
-    let magnitude = crate::value::magnitude(value);
+    let magnitude = points::magnitude(value);
     if journal::MAGNITUDE_MOST < magnitude {
         return refused(Refusal::ValueWrong);
     }

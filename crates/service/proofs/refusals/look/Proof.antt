@@ -10,10 +10,10 @@ use Rattle.calendar.proofs.Laws.{exists-day, exists-quarter}
 use Rattle.journal.specs.Entries.{placeOf}
 use Rattle.journal.proofs.Stored.{length-entries}
 use Rattle.registration.specs.Rules.{points}
-use Rattle.service.specs.Points.{codesOf, indexOf, has}
+use Rattle.points.specs.Points.{codesOf, indexOf, has, signSuits}
 use Rattle.service.specs.Group.{Group}
 use Rattle.service.specs.Record.{groupIn}
-use Rattle.service.specs.Refusals.{damaged, signSuits}
+use Rattle.service.specs.Refusals.{damaged}
 use Rattle.service.proofs.Sound.{Sound, undamaged-sound}
 use Rattle.service.proofs.Undamaged.{few-points, right-of, fits-of}
 use Rattle.service.proofs.Verdicts.{submission-damaged, submission-unknown, submission-no-day, submission-cleared, submission-wrong-sign}

@@ -1,15 +1,15 @@
--- `service::codes::find` meets its contract. The invariant: no point passed has the code. Assumes nothing.
+-- `points::find` meets its contract. The invariant: no point passed has the code. Assumes nothing.
 use Prim.Native.Nat.{ℕ, _-_, _<_}
 use mathlib.Core.Path.{_≡_, sym, _∙_}
 use mathlib.Core.List.{List}
 use lib.ListN.{length, getD}
 use Rattle.lists.specs.Tables.{table}
 use Rattle.lists.proofs.TableLaws.{length-table, table-at}
-use Rattle.service.proofs.Search.{Searched, searched-none, searched-here, searched-next, searched-all}
+use Rattle.points.proofs.Search.{Searched, searched-none, searched-here, searched-next, searched-all}
 use borrow.Author.Needs.{needs}
 use native.Mathlib.Omega.{arith}
-use Rattle.service.proofs.codes.find.Statement.{statement}
-use Rattle.service.proofs.codes.find.Tie as tie
+use Rattle.points.proofs.find.Statement.{statement}
+use Rattle.points.proofs.find.Tie as tie
 
 -- the codes of the points
 abbrev codesIn : List ℕ → ℕ → List ℕ

@@ -8,7 +8,7 @@ use mathlib.Core.List.{List}
 use lib.ListN.{length, getD, drop}
 use lib.Seq.{drop-cons, drop-length}
 use borrow.Author.Tests.{eq-eqb, ne-eqb}
-use Rattle.service.specs.Points.{indexOf}
+use Rattle.points.specs.Points.{indexOf}
 
 -- how far the search has come: the first place is that in what is left, moved by what was passed
 pub record Searched (code : ℕ) (xs : List ℕ) (passed : ℕ) : Type 0 where

@@ -1,9 +1,9 @@
--- `service::value::sign_suits` meets its contract: the number that the machine reads is the value. Assumes nothing.
+-- `points::sign_suits` meets its contract: the number that the machine reads is the value. Assumes nothing.
 use borrow.Author.Tests.{lt-ltb, le-ltb}
 use mir.Syntax.{w64}
 use mir.ValLaws.{toZ-ofZ}
-use Rattle.service.proofs.value.sign_suits.Statement.{statement}
-use Rattle.service.proofs.value.sign_suits.Tie as tie
+use Rattle.points.proofs.sign_suits.Statement.{statement}
+use Rattle.points.proofs.sign_suits.Tie as tie
 
 returns : tie.Need-returns
 returns c =
