@@ -44,6 +44,10 @@ allocationOf r magnitude =
 abbrev pub numbersOf : Allocation → List ℕ
 numbersOf allocation = allocation .shares ++ (allocation .withdrawals ++ allocation .supplies)
 
+-- how many pairs a group has: each consumer with each producer that it names
+abbrev pub pairsIn : Registration → ℕ
+pairsIn r = sumBelow (countAt r) (r .consumers)
+
 -- how many numbers they are: one for each pair, each consumer and each producer
 abbrev pub sizeOf : Registration → ℕ
-sizeOf r = sumBelow (countAt r) (r .consumers) + r .consumers + r .producers
+sizeOf r = pairsIn r + r .consumers + r .producers

@@ -7,7 +7,7 @@ use lib.ListN.{length, drop, length-append}
 use lib.Seq.{take-at, drop-at}
 use Rattle.lists.specs.Place.{placed}
 use Rattle.registration.specs.declared.Registration.{Registration}
-use Rattle.allocation.specs.Result.{Allocation, numbersOf, startOf, allocationOf, roundsFor}
+use Rattle.allocation.specs.Result.{Allocation, pairsIn, numbersOf, startOf, allocationOf, roundsFor}
 use Rattle.allocation.specs.Rounds.{received}
 use Rattle.allocation.proofs.Laws.{pairs-length, remaining-lengths}
 use Rattle.registration.specs.Rules.{codeAt, statusAt}
@@ -15,7 +15,7 @@ use Rattle.evaluation.specs.Substitutes.{magnitudeOf}
 use Rattle.evaluation.specs.Evaluation.{evaluationOf}
 use Rattle.service.specs.Group.{Seen}
 use Rattle.service.specs.Book.{Book, noted, bookResult}
-use Rattle.service.specs.Demand3.{part, Gives, pairsIn, SameResult}
+use Rattle.service.specs.Demand3.{part, Gives, SameResult}
 
 -- the middle one of three lists put together
 part-of : (first second third : List ℕ) (at : ℕ) → length first ≡ at → part at (length second) (first ++ (second ++ third)) ≡ second

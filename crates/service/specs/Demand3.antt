@@ -9,10 +9,8 @@ use Rattle.answers.specs.declared.Verdict.{Verdict}
 use Rattle.answers.specs.declared.Verdict.the-variants.{Accepted, Refused}
 use Rattle.answers.specs.declared.Refusal.the-variants.{Damaged}
 use Rattle.registration.specs.declared.Registration.{Registration}
-use Rattle.registration.specs.Rules.{countAt}
 use Rattle.registration.specs.Damage.{isDamaged}
-use Rattle.lists.specs.Below.{sumBelow}
-use Rattle.allocation.specs.Result.{Allocation}
+use Rattle.allocation.specs.Result.{Allocation, pairsIn}
 use Rattle.service.specs.declared.Service.{Service}
 use Rattle.service.specs.Group.{Call, Submission, Clear, Evaluation, Seen}
 use Rattle.service.specs.Record.{freshService, callOn}
@@ -24,6 +22,7 @@ abbrev pub isRefused : Verdict → Bool
 isRefused Accepted = false
 isRefused (Refused refusal) = true
 
+-- the same of what is seen of a call
 abbrev pub refused : Seen → Bool
 refused seen = isRefused (seen .verdict)
 
@@ -62,10 +61,6 @@ abbrev pub Right : Book → Call → Seen → Type 0
 Right book (Submission clock code day quarter value) seen = seen .number ≡ bookStamp book clock code day quarter value
 Right book (Clear day stamp) seen = Unit {0}
 Right book (Evaluation day quarter T lent) seen = Gives (bookResult book day quarter T) seen
-
--- how many pairs a group has: each consumer with each producer that it names
-abbrev pub pairsIn : Registration → ℕ
-pairsIn r = sumBelow (countAt r) (r .consumers)
 
 -- two evaluations are equal in pair shares, remaining withdrawals, remaining supplies and round count
 pub record SameResult (r : Registration) (a b : Seen) : Type 0 where
