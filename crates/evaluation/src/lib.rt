@@ -19,9 +19,7 @@ use registration::Registration;
 // The quarter hour itself and the four earlier weeks.
 pub const WEEKS: usize = 5;
 
-// How many places a point has, 100 for each of 27759 days, a week, and the four earlier weeks.
-const POINT_PLACES: u64 = 2775900;
-
+// How many places of a point a week has, and the four earlier weeks.
 const WEEK_PLACES: u64 = 700;
 
 const EARLIER_PLACES: u64 = 4 * WEEK_PLACES;
@@ -34,7 +32,7 @@ fn take_in(table: &mut [u64], stamp: u64, place: u64, stored: u64, slot: u64, un
     if stamp > until {
         return;
     }
-    let at = place % POINT_PLACES;
+    let at = place % journal::POINT_PLACES;
     if at > slot {
         return;
     }
@@ -45,7 +43,7 @@ fn take_in(table: &mut [u64], stamp: u64, place: u64, stored: u64, slot: u64, un
     if before % WEEK_PLACES != 0 {
         return;
     }
-    let point = (place / POINT_PLACES) as usize;
+    let point = (place / journal::POINT_PLACES) as usize;
     let week = (before / WEEK_PLACES) as usize;
     table[5 * point + week] = stored + 1;
 }

@@ -1,10 +1,11 @@
 // The journal: a lent list of numbers, three an entry: stamp, place, and the magnitude that is stored.
 ghost use mathlib.Core.Path.{_≡_};
 ghost use mathlib.Core.Bool.{_&&_};
-ghost use Prim.Native.Nat.{_+_, _*_, _≤_};
+ghost use Prim.Native.Nat.{ℕ, _+_, _*_, _/_, _%_, _≤_, _<_};
 ghost use lib.ListN.{length};
 ghost use lib.Dec.{leb, eqb};
 ghost use Rattle.lists.specs.Place.{placed};
+ghost use Rattle.calendar.specs.Quarters.{quarterExists};
 ghost use Rattle.journal.specs.Readings.{shown};
 ghost use Rattle.journal.specs.Entries.{placeOf, readingsAt};
 ghost use Rattle.journal.specs.Stored.{entries, numbers};
@@ -13,6 +14,9 @@ ghost use Rattle.journal.specs.Found.{found};
 
 // How many numbers an entry has.
 pub const ENTRY: usize = 3;
+
+// How many places a point has: 100 for each of 27759 days.
+pub const POINT_PLACES: u64 = 2775900;
 
 // The greatest magnitude.
 pub const MAGNITUDE_MOST: u64 = 99999999;
@@ -69,20 +73,31 @@ pub fn put(journal: &mut [u64], i: usize, stamp: u64, place: u64, stored: u64)
     journal[at + 2] = stored;
 }
 
-// Whether an entry is right, but for its stamp: its point, its day, its quarter and its magnitude.
-fn entry_right(place: u64, stored: u64, points: u64, kept_day: u64) -> bool
-    ensures { λ r. ⌜ r ≡ entryRight points «kept_day» (record { stamp = 0; place = place; stored = stored }) ⌝ }
+// Whether a day has a quarter, both as one number, day × 100 + quarter − 1. Every day has 92 quarters, so only for later ones the day is looked up.
+fn quarter_right(slot: u64) -> bool
+    requires { ⌜ slot < 2775900 ⌝ }
+    ensures { λ r. ⌜ r ≡ quarterExists (slot / 100) (slot % 100 + 1) ⌝ }
 {
-    let slot = place / 100;
-    if slot / 27759 >= points {
+    let quarter = slot % 100 + 1;
+    if quarter <= 92 {
+        return true;
+    }
+    quarter <= calendar::quarters(slot / 100)
+}
+
+// Whether an entry is right, but for its stamp: its point, by the first place that is no point's, its day, by the first place of the kept day, its
+// quarter and its magnitude.
+fn entry_right(place: u64, stored: u64, end: u64, first: u64) -> bool
+    ensures { λ r. ⌜ ((points K : ℕ) → end ≡ points * 2775900 → first ≡ K * 100 → r ≡ entryRight points K (record { stamp = 0; place = place; stored = stored })) ⌝ }
+{
+    if place >= end {
         return false;
     }
-    let day = slot % 27759;
-    if day < kept_day {
+    let slot = place % POINT_PLACES;
+    if slot < first {
         return false;
     }
-    let quarter = place % 100 + 1;
-    if !calendar::exists(day, quarter) {
+    if !quarter_right(slot) {
         return false;
     }
     stored <= MAGNITUDE_MOST
@@ -90,9 +105,11 @@ fn entry_right(place: u64, stored: u64, points: u64, kept_day: u64) -> bool
 
 // Whether the entries are right: their stamps rise within 1..last, and each is right.
 pub fn right(journal: &[u64], count: usize, points: u64, kept_day: u64, last: u64) -> bool
-    requires { ⌜ 3 * count ≤ length (now journal) ⌝ }
+    requires { ⌜ (3 * count ≤ length (now journal)) × (points ≤ 64) × («kept_day» ≤ 27758) ⌝ }
     ensures { λ r. ⌜ r ≡ entriesRight points «kept_day» last 0 (entries count (now (journal .entry))) ⌝ }
 {
+    let end = points * POINT_PLACES;
+    let first = kept_day * 100;
     let mut before = 0;
     let mut i = 0;
     while i < count {
@@ -103,7 +120,7 @@ pub fn right(journal: &[u64], count: usize, points: u64, kept_day: u64, last: u6
         if stamp > last {
             return false;
         }
-        if !entry_right(journal[3 * i + 1], journal[3 * i + 2], points, kept_day) {
+        if !entry_right(journal[3 * i + 1], journal[3 * i + 2], end, first) {
             return false;
         }
         before = stamp;

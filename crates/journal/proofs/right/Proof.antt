@@ -2,7 +2,7 @@
 -- The measure is how many are left. Assumes nothing.
 use Prim.Native.Nat.{_-_}
 use native.Mathlib.Omega.{arith}
-use mathlib.Core.Path.{sym, _∙_}
+use mathlib.Core.Path.{refl, sym, _∙_}
 use borrow.Author.Needs.{needs}
 use borrow.Author.Tests.{not-true, not-false}
 use Rattle.journal.proofs.Rules.{Passed, passed-start, passed-end, not-above, above-last, entry-wrong, entry-passed}
@@ -10,10 +10,16 @@ use Rattle.journal.proofs.right.Statement.{statement}
 use Rattle.journal.proofs.right.Tie as tie
 
 abbrev Inv-loop : tie.InvT-loop
-Inv-loop journal count points kept-day last before₀ i₀ before i = Passed points kept-day last journal count before i
+Inv-loop journal count points kept-day last end first before₀ i₀ before i = Passed points kept-day last journal count before i
 
 abbrev μ-loop : tie.MeasureT-loop
-μ-loop journal count points kept-day last before₀ i₀ before i = count - i
+μ-loop journal count points kept-day last end first before₀ i₀ before i = count - i
+
+mul-end : tie.Need-mul-end Inv-loop μ-loop
+mul-end c = search needs
+
+mul-first : tie.Need-mul-first Inv-loop μ-loop
+mul-first c = search needs
 
 loop-holds : tie.Need-loop-holds Inv-loop μ-loop
 loop-holds c = passed-start _ _ _ _ _
@@ -63,7 +69,7 @@ entry-right-requires c κs = search needs
 returns-3 : tie.Need-returns-3 Inv-loop μ-loop
 returns-3 c =
     let at = c .before .before .before .before .before .before .before .before in
-    entry-wrong _ _ _ _ _ _ _ (omega arith) (at .loop .inv) (sym (c .before .entry-right .ensures) ∙ not-true _ (c .if3 .taken))
+    entry-wrong _ _ _ _ _ _ _ (omega arith) (at .loop .inv) (sym (c .before .entry-right .ensures _ _ refl refl) ∙ not-true _ (c .if3 .taken))
 
 add-i : tie.Need-add-i Inv-loop μ-loop
 add-i c = search needs
@@ -75,7 +81,7 @@ loop-again : tie.Need-loop-again Inv-loop μ-loop
 loop-again c =
     let at = c .before .before .before .before .before .before .before .before in
     entry-passed _ _ _ _ _ _ _ (omega arith) (at .loop .inv) (omega arith) (omega arith)
-    (sym (c .before .entry-right .ensures) ∙ not-false _ (c .if3 .left))
+    (sym (c .before .entry-right .ensures _ _ refl refl) ∙ not-false _ (c .if3 .left))
 
 returns-4 : tie.Need-returns-4 Inv-loop μ-loop
 returns-4 c = passed-end _ _ _ _ _ _ _ (omega arith) (c .before .loop .inv)
@@ -86,6 +92,8 @@ right-spec =
     (tie.spec
     Inv-loop
     μ-loop
+    mul-end
+    mul-first
     loop-holds
     mul-stamp
     mul-stamp-2

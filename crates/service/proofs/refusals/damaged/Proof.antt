@@ -50,7 +50,9 @@ add-points : tie.Need-add-points
 add-points c = omega (arith, few-points (c .before))
 
 right-requires : tie.Need-right-requires
-right-requires c κs = omega (arith, c .before .if5 .left)
+right-requires c κs =
+    let e = c .before in
+    (omega (arith, e .if5 .left), few-points e, e .before .if4 .left)
 
 returns-6 : tie.Need-returns-6
 returns-6 c =
