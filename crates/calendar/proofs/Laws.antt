@@ -144,6 +144,10 @@ long-days day h = (
 pub other-days : OtherDays
 other-days day h = rw (quarters-are day h) (if-other (march day) (october day))
 
+-- a day that is no Sunday has 96
+pub weekdays : (day : ℕ) → day ≤ 27758 → (day % 7 ≡ 6 → ⊥) → quartersOf day ≡ 96
+weekdays day h n = other-days day h (λ e. n (eqb-true _ _ (short-days day h .0 e .0))) (λ e. n (eqb-true _ _ (long-days day h .0 e .0)))
+
 pub quarters-bounds : (day : ℕ) → day ≤ 27758 → (92 ≤ quartersOf day) × (quartersOf day ≤ 100)
 quarters-bounds day h = rw (quarters-are day h) (if-bounds (march day) (october day))
 
