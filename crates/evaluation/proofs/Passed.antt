@@ -35,20 +35,20 @@ module _ (points K last : ℕ) where
 
 module _ (count : ℕ) (j : List ℕ) (r : Right (entries count j)) (i : ℕ) (h : i < count) where
   -- the entries passed and the next one are right
-  next-right : entriesRight (r .points) (r .keptday) (r .last) 0 (entries i j ++ (entryAt j i ∷ [])) ≡ true
-  next-right = rw (← entries-snoc i j) (right-fewer (r .points) (r .keptday) (r .last) 0 (suc i) count j h (r .right))
+  next-right : entriesRight (r .points) (r .all .keptday) (r .all .last) 0 (entries i j ++ (entryAt j i ∷ [])) ≡ true
+  next-right = rw (← entries-snoc i j) (right-fewer (r .points) (r .all .keptday) (r .all .last) 0 (suc i) count j h (r .all .right))
 
   -- the readings of a place among them rise
   pub next-rising : (place : ℕ) → Rising 0 (readingsAt (entries i j ++ (entryAt j i ∷ [])) place)
-  next-rising place = right-rising (r .points) (r .keptday) (r .last) place 0 0 (omega arith) _ next-right
+  next-rising place = right-rising (r .points) (r .all .keptday) (r .all .last) place 0 0 (omega arith) _ next-right
 
   -- the next one is of one of 64 points, and its number is that of a reading
   pub next-bounds : (entryAt j i .place < 64 * 2775900) × (entryAt j i .stored ≤ 99999999)
   unfolding entryRight
   next-bounds =
       let e = entryAt j i in
-      let a = right-last (r .points) (r .keptday) (r .last) 0 (entries i j) e next-right in
-      let k = all4 (ltb (pointIn (e .place)) (r .points)) (leb (r .keptday) (dayIn (e .place))) (quarterExists (dayIn (e .place)) (quarterIn (e .place))) (storedRight (e .stored)) a in
+      let a = right-last (r .points) (r .all .keptday) (r .all .last) 0 (entries i j) e next-right in
+      let k = all4 (ltb (pointIn (e .place)) (r .points)) (leb (r .all .keptday) (dayIn (e .place))) (quarterExists (dayIn (e .place)) (quarterIn (e .place))) (storedRight (e .stored)) a in
       let p = ltb-true (pointIn (e .place)) (r .points) (k .0) in
       let s = leb-true (e .stored) 99999999 (k .3) in
-      (omega (arith, r .few), s)
+      (omega (arith, r .all .few), s)

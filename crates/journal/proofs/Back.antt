@@ -93,7 +93,7 @@ module _ (j : List ℕ) (count p T : ℕ) where
   back-start r =
       record {
         within = omega arith;
-        rising = right-rising (r .points) (r .keptday) (r .last) p 0 0 (omega arith) (entries count j) (r .right);
+        rising = right-rising (r .points) (r .all .keptday) (r .all .last) p 0 0 (omega arith) (entries count j) (r .all .right);
         same = refl;
       }
 

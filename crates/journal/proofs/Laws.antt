@@ -35,7 +35,7 @@ place-tells point day quarter d q l = (pointIn-place point day quarter d q l, da
 
 pub keep-shows : KeepShows
 keep-shows K P T place es r k l =
-    shown-keep K P T place es k l (right-rising (r .points) (r .keptday) (r .last) place 0 0 (omega arith) es (r .right))
+    shown-keep K P T place es k l (right-rising (r .points) (r .all .keptday) (r .all .last) place 0 0 (omega arith) es (r .all .right))
 
 pub keeps-no-older : KeepsNoOlder
 unfolding keep

@@ -20,10 +20,14 @@ entriesRight points K last before [] = true
 entriesRight points K last before (e ∷ es) =
     ltb before (e .stamp) && leb (e .stamp) last && entryRight points K e && entriesRight points K last (e .stamp) es
 
--- entries that are right for some group of at most 64 points, some kept day and some last stamp
-pub record Right (es : List Entry) : Type 0 where
-  pub points : ℕ
+-- entries that are right for a group of so many points, at most 64, some kept day and some last stamp
+pub record RightFor (points : ℕ) (es : List Entry) : Type 0 where
+  pub few : points ≤ 64
   pub keptday : ℕ
   pub last : ℕ
-  pub few : points ≤ 64
   pub right : entriesRight points keptday last 0 es ≡ true
+
+-- entries that are right for some number of points
+pub record Right (es : List Entry) : Type 0 where
+  pub points : ℕ
+  pub all : RightFor points es

@@ -1,4 +1,4 @@
--- A bit of a word that is set, and the other bits; a place of the table that is seen. Assumes nothing.
+-- A bit of a word that is set, and the other bits; a key of the table that is seen. Assumes nothing.
 use Prim.Native.Nat.{ℕ, zero, suc, _+_, _*_, _-_, _/_, _%_, _^_, _≤_, _<_}
 use mathlib.Core.Path.{_≡_, refl, _∙_}
 use mathlib.Core.List.{List}
@@ -44,7 +44,7 @@ bit-other : (w s t : ℕ) → (t ≡ s → ⊥) → bitOr w (2 ^ s) / 2 ^ t % 2 
 bit-other w s t n =
     rw (or-shr w (2 ^ s) t, or-mod (w / 2 ^ t) (2 ^ s / 2 ^ t) 1) (rw (other-bit s t n, or-zero-r))
 
--- a place is seen once its bit is set
+-- a key is seen once its bit is set
 pub sees : (seen : List ℕ) (k : ℕ) → k / 64 < length seen → Saw seen k (set seen (k / 64) (bitOr (getD seen (k / 64) 0) (2 ^ (k % 64))))
 sees seen k h =
     let w = getD seen (k / 64) 0 in

@@ -14,30 +14,33 @@ use Rattle.lists.proofs.Below.{and-left, and-right}
 use Rattle.journal.specs.Entries.{Entry}
 use Rattle.journal.specs.Stored.{entryAt}
 use Rattle.journal.proofs.Stored.{rest, rest-start, rest-step, rest-end}
-use Rattle.journal_clear.specs.Marks.{window, noPlace, hasSeen, showsIn, superseded, unstamped, within, marked, nextIn, seenAgain, Turned, Passed}
+use Rattle.journal_clear.specs.Marks.{keyOf, window, noPlace, hasSeen, showsIn, superseded, unstamped, within, marked, nextIn, seenAgain, Turned, Passed}
 
--- the journal at first and now, the table and the next place, once the entries from number i on are passed
-pub record Going (lo P count : ℕ) (first j seen : List ℕ) (next i : ℕ) : Type 0 where
+-- the journal at first and now, the table and the next key, once the entries from number i on are passed
+pub record Going (points lo P count : ℕ) (first j seen : List ℕ) (next i : ℕ) : Type 0 where
   pub ahead : i ≤ count
   pub table-length : length seen ≡ 16384
   pub same-length : length j ≡ length first
   pub front : take (3 * i) j ≡ take (3 * i) first
-  pub marks : rest j count i ≡ marked lo (lo + window) P (rest first count i)
+  pub marks : rest j count i ≡ marked points lo (lo + window) P (rest first count i)
   pub later : drop (3 * count) j ≡ drop (3 * count) first
-  pub least : next ≡ nextIn (lo + window) (rest first count i)
-  pub table : (k : ℕ) → k < window → hasSeen seen k ≡ showsIn (lo + k) P (rest first count i)
+  pub least : next ≡ nextIn points (lo + window) (rest first count i)
+  pub table : (k : ℕ) → k < window → hasSeen seen k ≡ showsIn points (lo + k) P (rest first count i)
 
-module _ (lo P count : ℕ) (first j seen : List ℕ) (next i : ℕ) (h : i < count) (fits : 3 * count ≤ length first)
-    (g : Going lo P count first j seen next (i + 1)) where
-  -- the entry, those after it, and whether it is marked
+module _ (points lo P count : ℕ) (first j seen : List ℕ) (next i : ℕ) (h : i < count) (fits : 3 * count ≤ length first)
+    (g : Going points lo P count first j seen next (i + 1)) where
+  -- the entry, those after it, its key, and whether it is marked
   abbrev e : Entry
   e = entryAt first i
 
   abbrev es : List Entry
   es = rest first count (i + 1)
 
+  abbrev p : ℕ
+  p = keyOf points (e .place)
+
   abbrev goes : Bool
-  goes = within lo (lo + window) (e .place) && superseded P e es
+  goes = within lo (lo + window) p && superseded points P e es
 
   still : (n : ℕ) → n < 3 * (i + 1) → getD j n 0 ≡ getD first n 0
   still n l = sym (getD-take (3 * (i + 1)) j n 0 l) ∙ ap (λ (t : List ℕ). getD t n 0) (g .front) ∙ getD-take (3 * (i + 1)) first n 0 l
@@ -46,14 +49,14 @@ module _ (lo P count : ℕ) (first j seen : List ℕ) (next i : ℕ) (h : i < co
   entry-still = rw (still (3 * i) (omega arith), still (3 * i + 1) (omega arith), still (3 * i + 2) (omega arith))
 
   -- the table tells whether the entry is superseded
-  table-tells : seenAgain lo P e seen ≡ goes
+  table-tells : seenAgain points lo P e seen ≡ goes
   table-tells =
-      by-test (within lo (lo + window) (e .place))
+      by-test (within lo (lo + window) p)
       (λ w.
-      let l = leb-true lo (e .place) (and-left (leb lo (e .place)) (ltb (e .place) (lo + window)) w) in
-      let u = ltb-true (e .place) (lo + window) (and-right (leb lo (e .place)) (ltb (e .place) (lo + window)) w) in
-      let q : lo + (e .place - lo) ≡ e .place = omega arith in
-      let t : hasSeen seen (e .place - lo) ≡ showsIn (e .place) P es = rw q at (g .table (e .place - lo) (omega arith)) in
+      let l = leb-true lo p (and-left (leb lo p) (ltb p (lo + window)) w) in
+      let u = ltb-true p (lo + window) (and-right (leb lo p) (ltb p (lo + window)) w) in
+      let q : lo + (p - lo) ≡ p = omega arith in
+      let t : hasSeen seen (p - lo) ≡ showsIn points p P es = rw q at (g .table (p - lo) (omega arith)) in
       rw (w, t))
       (λ w. rw w)
 
@@ -76,7 +79,7 @@ module _ (lo P count : ℕ) (first j seen : List ℕ) (next i : ℕ) (h : i < co
   marked-rest = rw (drop-set-lt (3 * (i + 1)) j (3 * i) 0 (omega arith))
 
   marks-on : (t : Bool) (after : List ℕ) → goes ≡ t → after ≡ cond t (set j (3 * i) 0) j
-      → rest after count i ≡ marked lo (lo + window) P (rest first count i)
+      → rest after count i ≡ marked points lo (lo + window) P (rest first count i)
   unfolding marked
   marks-on true after t q = rw (q, rest-step (set j (3 * i) 0) count i h, marked-entry, marked-rest, rest-step first count i h, g .marks, t)
   marks-on false after t q = rw (q, rest-step j count i h, entry-still, rest-step first count i h, g .marks, t)
@@ -91,11 +94,11 @@ module _ (lo P count : ℕ) (first j seen : List ℕ) (next i : ℕ) (h : i < co
       )
   others-on false after q = rw q (g .same-length, front-on, g .later)
 
-  turn-on : (after seen′ : List ℕ) (next′ : ℕ) → length seen′ ≡ length seen → Turned lo P (entryAt j i) i j seen next after seen′ next′
-      → Going lo P count first after seen′ next′ i
+  turn-on : (after seen′ : List ℕ) (next′ : ℕ) → length seen′ ≡ length seen → Turned points lo P (entryAt j i) i j seen next after seen′ next′
+      → Going points lo P count first after seen′ next′ i
   unfolding nextIn showsIn
   turn-on after seen′ next′ l turned =
-      let t : Turned lo P e i j seen next after seen′ next′ = rw entry-still at turned in
+      let t : Turned points lo P e i j seen next after seen′ next′ = rw entry-still at turned in
       let q : after ≡ cond goes (set j (3 * i) 0) j = rw table-tells at (t .journal) in
       let r = others-on goes after q in
       record {
@@ -109,10 +112,10 @@ module _ (lo P count : ℕ) (first j seen : List ℕ) (next i : ℕ) (h : i < co
         table = λ k m. rw (rest-step first count i h, ← g .table k m) (t .table k m);
       }
 
--- before the last entry the table is empty and there is no next place
-pub start : (lo P count : ℕ) (j seen : List ℕ) → length seen ≡ 16384 → ((k : ℕ) → k < 16384 → getD seen k 0 ≡ 0) → Going lo P count j j seen noPlace (count - 0)
+-- before the last entry the table is empty and there is no next key
+pub start : (points lo P count : ℕ) (j seen : List ℕ) → length seen ≡ 16384 → ((k : ℕ) → k < 16384 → getD seen k 0 ≡ 0) → Going points lo P count j j seen noPlace (count - 0)
 unfolding marked nextIn showsIn
-start lo P count j seen l z =
+start points lo P count j seen l z =
     let n : count - 0 ≡ count = omega arith in
     rw n
     (record {
@@ -127,17 +130,17 @@ start lo P count j seen l z =
     })
 
 -- one entry more
-pub turn-back : (lo P count : ℕ) (first j seen : List ℕ) (next passed : ℕ) → passed < count → 3 * count ≤ length first
-    → Going lo P count first j seen next (count - passed) → (after seen′ : List ℕ) (next′ : ℕ) → length seen′ ≡ length seen
-    → Turned lo P (entryAt j (count - (passed + 1))) (count - (passed + 1)) j seen next after seen′ next′
-    → Going lo P count first after seen′ next′ (count - (passed + 1))
-turn-back lo P count first j seen next passed p fits g =
+pub turn-back : (points lo P count : ℕ) (first j seen : List ℕ) (next passed : ℕ) → passed < count → 3 * count ≤ length first
+    → Going points lo P count first j seen next (count - passed) → (after seen′ : List ℕ) (next′ : ℕ) → length seen′ ≡ length seen
+    → Turned points lo P (entryAt j (count - (passed + 1))) (count - (passed + 1)) j seen next after seen′ next′
+    → Going points lo P count first after seen′ next′ (count - (passed + 1))
+turn-back points lo P count first j seen next passed p fits g =
     let q : count - passed ≡ count - (passed + 1) + 1 = omega arith in
-    turn-on lo P count first j seen next (count - (passed + 1)) (omega arith) fits (subst (λ (n : ℕ). Going lo P count first j seen next n) q g)
+    turn-on points lo P count first j seen next (count - (passed + 1)) (omega arith) fits (subst (λ (n : ℕ). Going points lo P count first j seen next n) q g)
 
 -- all entries are passed
-pub finish : (lo P count : ℕ) (first j seen : List ℕ) (next i : ℕ) → i ≡ 0 → Going lo P count first j seen next i → Passed lo P count first j next
-finish lo P count first j seen next i z g =
+pub finish : (points lo P count : ℕ) (first j seen : List ℕ) (next i : ℕ) → i ≡ 0 → Going points lo P count first j seen next i → Passed points lo P count first j next
+finish points lo P count first j seen next i z g =
     record {
       marks = rw (z, rest-start j count, rest-start first count) at (g .marks);
       later = g .later;

@@ -9,19 +9,19 @@ use lib.ListN.{set}
 use borrow.Author.Tests.{eqb-true, eqb-false, lt-ltb, le-ltb, le-leb, lt-leb, ne-eqb}
 use Rattle.lists.proofs.Cases.{by-test}
 use Rattle.journal.specs.Entries.{Entry}
-use Rattle.journal_clear.specs.Marks.{window, hasSeen, Saw, within, shows, Turned}
+use Rattle.journal_clear.specs.Marks.{keyOf, window, hasSeen, Saw, within, shows, Turned}
 use Rattle.journal_clear.proofs.Windows.{in-window, below-window, above-window}
 
-module _ (lo P : ℕ) (e : Entry) (i : ℕ) (j seen : List ℕ) (next : ℕ) where
-  -- the entry's place
+module _ (points lo P : ℕ) (e : Entry) (i : ℕ) (j seen : List ℕ) (next : ℕ) where
+  -- the entry's key
   abbrev p : ℕ
-  p = e .place
+  p = keyOf points (e .place)
 
-  -- a place outside the window is none of the table's
-  outside : ((k : ℕ) → k < window → p ≡ lo + k → ⊥) → (k : ℕ) → k < window → hasSeen seen k ≡ (shows (lo + k) P e || hasSeen seen k)
+  -- a key outside the window is none of the table's
+  outside : ((k : ℕ) → k < window → p ≡ lo + k → ⊥) → (k : ℕ) → k < window → hasSeen seen k ≡ (shows points (lo + k) P e || hasSeen seen k)
   outside n k h = rw (ne-eqb p (lo + k) (n k h))
 
-  pub before : p < lo → Turned lo P e i j seen next j seen next
+  pub before : p < lo → Turned points lo P e i j seen next j seen next
   before h =
       record {
         journal = rw (below-window lo (lo + window) p h);
@@ -29,7 +29,7 @@ module _ (lo P : ℕ) (e : Entry) (i : ℕ) (j seen : List ℕ) (next : ℕ) whe
         table = outside (λ k l q. omega arith);
       }
 
-  pub beyond-less : lo ≤ p → window ≤ p - lo → p < next → Turned lo P e i j seen next j seen p
+  pub beyond-less : lo ≤ p → window ≤ p - lo → p < next → Turned points lo P e i j seen next j seen p
   beyond-less l h n =
       record {
         journal = rw (above-window lo (lo + window) p (omega arith));
@@ -37,7 +37,7 @@ module _ (lo P : ℕ) (e : Entry) (i : ℕ) (j seen : List ℕ) (next : ℕ) whe
         table = outside (λ k m q. omega arith);
       }
 
-  pub beyond : lo ≤ p → window ≤ p - lo → next ≤ p → Turned lo P e i j seen next j seen next
+  pub beyond : lo ≤ p → window ≤ p - lo → next ≤ p → Turned points lo P e i j seen next j seen next
   beyond l h n =
       record {
         journal = rw (above-window lo (lo + window) p (omega arith));
@@ -52,7 +52,7 @@ module _ (lo P : ℕ) (e : Entry) (i : ℕ) (j seen : List ℕ) (next : ℕ) whe
     no-next : leb (lo + window) p ≡ false
     no-next = lt-leb (lo + window) p (omega arith)
 
-    pub late : P < e .stamp → Turned lo P e i j seen next j seen next
+    pub late : P < e .stamp → Turned points lo P e i j seen next j seen next
     late t =
         record {
           journal = rw (inside, lt-leb (e .stamp) P t);
@@ -64,7 +64,7 @@ module _ (lo P : ℕ) (e : Entry) (i : ℕ) (j seen : List ℕ) (next : ℕ) whe
       in-time : leb (e .stamp) P ≡ true
       in-time = le-leb (e .stamp) P t
 
-      pub seen-again : hasSeen seen (p - lo) ≡ true → Turned lo P e i j seen next (set j (3 * i) 0) seen next
+      pub seen-again : hasSeen seen (p - lo) ≡ true → Turned points lo P e i j seen next (set j (3 * i) 0) seen next
       seen-again s =
           record {
             journal = rw (inside, in-time, s);
@@ -75,7 +75,7 @@ module _ (lo P : ℕ) (e : Entry) (i : ℕ) (j seen : List ℕ) (next : ℕ) whe
                 (λ q. rw q);
           }
 
-      pub seen-now : (seen′ : List ℕ) → hasSeen seen (p - lo) ≡ false → Saw seen (p - lo) seen′ → Turned lo P e i j seen next j seen′ next
+      pub seen-now : (seen′ : List ℕ) → hasSeen seen (p - lo) ≡ false → Saw seen (p - lo) seen′ → Turned points lo P e i j seen next j seen′ next
       seen-now seen′ s w =
           record {
             journal = rw (inside, in-time, s);

@@ -1,5 +1,7 @@
-// The clear of a journal, in place. Window by window of places and from the last entry back, each entry up to the stamp that a later one
-// supersedes loses its own stamp; then the entries that are left move to the front. Which places were seen stands in a table of bits.
+// The clear of a journal, in place. Window by window of keys and from the last entry back, each entry up to the stamp that a later one
+// supersedes loses its own stamp; then the entries that are left move to the front. Which keys were seen stands in a table of bits. A key
+// is a place by its quarter hour first and its point second, and a quarter hour has as many keys as the group has points: entries of some
+// months lie in a window or two, however many points there are, and the fewer there are the longer is the time that a window holds.
 ghost use mathlib.Core.Path.{_≡_};
 ghost use mathlib.Core.Bool.{not, _&&_};
 ghost use Prim.Native.Nat.{_+_, _*_, _<_, _≤_};
@@ -7,19 +9,19 @@ ghost use lib.ListN.{length, replicate};
 ghost use lib.Dec.{eqb, leb};
 ghost use Rattle.journal.specs.Entries.{dayIn};
 ghost use Rattle.journal.specs.Stored.{entries, entryAt};
-ghost use Rattle.journal.specs.Damage.{Right};
+ghost use Rattle.journal.specs.Damage.{RightFor};
 ghost use Rattle.journal_clear.specs.Cleared.{Cleared};
 ghost use Rattle.journal_clear.specs.Marks.{hasSeen, Saw, Turned, Passed, Marked, Compacted};
 
-// How many places a window has, and how many words the table: a bit for each place.
+// How many keys a window has, and how many words the table: a bit for each key.
 const WINDOW: u64 = 1048576;
 
 const WORDS: usize = 16384;
 
-// The greatest number, which is no place.
+// The greatest number, which is the key of no place.
 const NO_PLACE: u64 = 18446744073709551615;
 
-// Whether place number k of the window was seen: bit k % 64 of word k / 64.
+// Whether key number k of the window was seen: bit k % 64 of word k / 64.
 fn has(seen: &[u64], k: usize) -> bool
     requires { ⌜ k < 64 * length (now seen) ⌝ }
     ensures { λ r. ⌜ r ≡ hasSeen (now (seen .entry)) k ⌝ }
@@ -27,7 +29,7 @@ fn has(seen: &[u64], k: usize) -> bool
     (seen[k / 64] >> (k % 64)) % 2 == 1
 }
 
-// Place number k of the window is seen.
+// Key number k of the window is seen.
 fn see(seen: &mut [u64], k: usize)
     requires { ⌜ k < 64 * length (now seen) ⌝ }
     ensures { λ _. ⌜ Saw (now (seen .entry)) k (now (seen .exit)) ⌝ }
@@ -36,20 +38,29 @@ fn see(seen: &mut [u64], k: usize)
     seen[at] = seen[at] | (1u64 << (k % 64));
 }
 
-// One entry of a pass. Up to the stamp and in the window, it loses its stamp where its place was seen, and its place is seen where it was not.
-// Returns the least place beyond the window among this entry and those before.
-fn turn(journal: &mut [u64], seen: &mut [u64], i: usize, stamp: u64, lo: u64, next: u64) -> u64
-    requires { ⌜ (3 * i + 3 ≤ length (now journal)) × (length (now seen) ≡ 16384) ⌝ }
-    ensures { λ r. ⌜ Turned lo stamp (entryAt (now (journal .entry)) i) i (now (journal .entry)) (now (seen .entry)) next (now (journal .exit)) (now (seen .exit)) r ⌝ }
+// One entry of a pass. Up to the stamp and in the window, it loses its stamp where its key was seen, and its key is seen where it was not.
+// Returns the least key beyond the window among this entry and those before.
+fn turn(
+    journal: &mut [u64],
+    seen: &mut [u64],
+    i: usize,
+    points: u64,
+    stamp: u64,
+    lo: u64,
+    next: u64,
+) -> u64
+    requires { ⌜ (3 * i + 3 ≤ length (now journal)) × (length (now seen) ≡ 16384) × (points ≤ 64) ⌝ }
+    ensures { λ r. ⌜ Turned points lo stamp (entryAt (now (journal .entry)) i) i (now (journal .entry)) (now (seen .entry)) next (now (journal .exit)) (now (seen .exit)) r ⌝ }
 {
     let place = journal[3 * i + 1];
-    if place < lo {
+    let key = place % journal::POINT_PLACES * points + place / journal::POINT_PLACES;
+    if key < lo {
         return next;
     }
-    let k = place - lo;
+    let k = key - lo;
     if k >= WINDOW {
-        if place < next {
-            return place;
+        if key < next {
+            return key;
         }
         return next;
     }
@@ -65,10 +76,10 @@ fn turn(journal: &mut [u64], seen: &mut [u64], i: usize, stamp: u64, lo: u64, ne
     next
 }
 
-// Marks the superseded entries whose places are in the window from `lo` on. Returns the least place beyond the window.
-fn pass(journal: &mut [u64], count: usize, stamp: u64, lo: u64) -> u64
-    requires { ⌜ 3 * count ≤ length (now journal) ⌝ }
-    ensures { λ r. ⌜ Passed lo stamp count (now (journal .entry)) (now (journal .exit)) r ⌝ }
+// Marks the superseded entries whose keys are in the window from `lo` on. Returns the least key beyond the window.
+fn pass(journal: &mut [u64], count: usize, points: u64, stamp: u64, lo: u64) -> u64
+    requires { ⌜ (3 * count ≤ length (now journal)) × (points ≤ 64) ⌝ }
+    ensures { λ r. ⌜ Passed points lo stamp count (now (journal .entry)) (now (journal .exit)) r ⌝ }
 {
     let mut seen = [0u64; WORDS];
     let mut next = NO_PLACE;
@@ -76,19 +87,19 @@ fn pass(journal: &mut [u64], count: usize, stamp: u64, lo: u64) -> u64
     while passed < count {
         passed += 1;
         let i = count - passed;
-        next = turn(journal, &mut seen, i, stamp, lo, next);
+        next = turn(journal, &mut seen, i, points, stamp, lo, next);
     }
     next
 }
 
-// Marks every superseded entry: a pass for each window that has a place.
-fn mark(journal: &mut [u64], count: usize, stamp: u64)
-    requires { ⌜ (3 * count ≤ length (now journal)) × Right (entries count (now journal)) ⌝ }
-    ensures { λ _. ⌜ Marked stamp count (now (journal .entry)) (now (journal .exit)) ⌝ }
+// Marks every superseded entry: a pass for the window from 0 on, then one for each window that has an entry's key.
+fn mark(journal: &mut [u64], count: usize, points: u64, stamp: u64)
+    requires { ⌜ (3 * count ≤ length (now journal)) × RightFor points (entries count (now journal)) ⌝ }
+    ensures { λ _. ⌜ Marked points stamp count (now (journal .entry)) (now (journal .exit)) ⌝ }
 {
     let mut lo = 0;
     while lo < NO_PLACE {
-        lo = pass(journal, count, stamp, lo);
+        lo = pass(journal, count, points, stamp, lo);
     }
 }
 
@@ -133,13 +144,13 @@ fn zero(numbers: &mut [u64])
     }
 }
 
-// Clears the first `count` entries in place: those that K = day and P = stamp keep move to the front, in order, the emptied numbers become 0.
-// Returns how many are kept.
-pub fn keep(journal: &mut [u64], count: usize, day: u64, stamp: u64) -> usize
-    requires { ⌜ (3 * count ≤ length (now journal)) × Right (entries count (now journal)) ⌝ }
+// Clears the first `count` entries, of a group of so many points, in place: those that K = day and P = stamp keep move to the front, in order,
+// the emptied numbers become 0. Returns how many are kept.
+pub fn keep(journal: &mut [u64], count: usize, points: u64, day: u64, stamp: u64) -> usize
+    requires { ⌜ (3 * count ≤ length (now journal)) × RightFor points (entries count (now journal)) ⌝ }
     ensures { λ r. ⌜ Cleared day stamp count (now (journal .entry)) (now (journal .exit)) r ⌝ }
 {
-    mark(journal, count, stamp);
+    mark(journal, count, points, stamp);
     let kept = compact(journal, count, day);
     let start = 3 * kept;
     let end = 3 * count;

@@ -10,11 +10,11 @@ use Rattle.lists.proofs.TableLaws.{length-table}
 use Rattle.registration.specs.Rules.{points, codeAt}
 use Rattle.registration.specs.Damage.{isDamaged}
 use Rattle.registration.proofs.Damage.{undamaged-parts, point-bounds}
-use Rattle.journal.specs.Damage.{entriesRight, Right}
+use Rattle.journal.specs.Damage.{entriesRight, Right, RightFor}
 use Rattle.journal.proofs.Stored.{length-entries}
 use Rattle.service.specs.declared.Service.{Service}
 use Rattle.service.specs.Record.{groupIn}
-use Rattle.service.specs.Group.{Group, rollOf}
+use Rattle.service.specs.Group.{Group}
 use Rattle.service.specs.Refusals.{stampMost, damaged}
 use Rattle.lists.proofs.Cases.{by-test}
 use Rattle.service.proofs.Sound.{Sound, undamaged-sound}
@@ -43,16 +43,18 @@ damaged-entries last G a b c d e right r =
 pub few-points : (last : ℕ) (G : Group) → Sound last G → points (G .registration) ≤ 64
 few-points last G k = point-bounds _ _ (undamaged-parts _ (k .registered) .point-counts) .2
 
--- the entries of a sound group are right, and fit into its journal
-pub right-of : (last : ℕ) (G : Group) → points (G .registration) ≤ 64 → Sound last G → Right (G .entries)
-right-of last G h k =
+-- the entries of a sound group are right, for its number of points, and fit into its journal
+pub right-for : (last : ℕ) (G : Group) → points (G .registration) ≤ 64 → Sound last G → RightFor (points (G .registration)) (G .entries)
+right-for last G h k =
     record {
-      points = length (rollOf G);
+      few = h;
       keptday = G .keptday;
       last = last;
-      few = rw (length-table (codeAt (G .registration)) (points (G .registration))) h;
-      right = k .right;
+      right = rw (length-table (codeAt (G .registration)) (points (G .registration))) at (k .right);
     }
+
+pub right-of : (last : ℕ) (G : Group) → points (G .registration) ≤ 64 → Sound last G → Right (G .entries)
+right-of last G h k = record { points = points (G .registration); all = right-for last G h k }
 
 pub fits-of : (s : Service) (j : List ℕ) → Sound (s .state .last) (groupIn s j) → 3 * s .state .entries ≤ length j
 fits-of s j k = omega (arith, k .fits, length-entries (s .state .entries) j)

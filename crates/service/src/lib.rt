@@ -161,7 +161,9 @@ impl Service {
         }
         let last = state.last;
         let count = state.entries;
-        let entries = journal_clear::keep(journal, count, day, stamp);
+        let registration = self.registration;
+        let points = registration.producers + registration.consumers;
+        let entries = journal_clear::keep(journal, count, points as u64, day, stamp);
         let dropped = count - entries;
         ClearStep {
             state: State {

@@ -40,7 +40,7 @@ returns c =
     let s = c .before .before .before .before .before .before .before .before .before .before .before .before .before in
     let m = c .before .before .before .before .before .before .before .before .before .before .mark in
     let k = c .before .before .before .before .before .before .compact in
-    cleared _ _ _ _ _ _ _ _ (s .pre .1) (m .ensures) (k .ensures) (omega (arith, k .kept .0, m .kept .0)) (c .before .before .zero .ensures)
+    cleared _ _ _ _ _ _ _ _ _ (s .pre .1) (m .ensures) (k .ensures) (omega (arith, k .kept .0, m .kept .0)) (c .before .before .zero .ensures)
 
 pub keep-spec : {M : Type 1} → statement M
 keep-spec =

@@ -1,4 +1,4 @@
--- `journal_clear::mark` meets its contract. The invariant: the superseded entries whose places are below `lo` are marked. Assumes nothing.
+-- `journal_clear::mark` meets its contract. The invariant: the superseded entries whose keys are below `lo` are marked. Assumes nothing.
 use borrow.Author.Needs.{needs}
 use native.Mathlib.Omega.{arith}
 use mathlib.Core.Path.{_≡_, refl, sym, _∙_}
@@ -11,15 +11,15 @@ use Rattle.journal_clear.proofs.mark.Statement.{statement}
 use Rattle.journal_clear.proofs.mark.Tie as tie
 
 abbrev Inv-loop : tie.InvT-loop
-Inv-loop journal₀ count stamp lo₀ journal lo =
+Inv-loop journal₀ count points stamp lo₀ journal lo =
     (lo ≤ noPlace) × (length journal ≡ length journal₀) × (drop (3 * count) journal ≡ drop (3 * count) journal₀)
-    × (entries count journal ≡ marked 0 lo stamp (entries count journal₀))
+    × (entries count journal ≡ marked points 0 lo stamp (entries count journal₀))
 
 abbrev μ-loop : tie.MeasureT-loop
-μ-loop journal₀ count stamp lo₀ journal lo = noPlace - lo
+μ-loop journal₀ count points stamp lo₀ journal lo = noPlace - lo
 
 loop-holds : tie.Need-loop-holds Inv-loop μ-loop
-loop-holds c = (omega arith, refl, refl, sym (marked-none _ _))
+loop-holds c = (omega arith, refl, refl, sym (marked-none _ _ _))
 
 pass-requires : tie.Need-pass-requires Inv-loop μ-loop
 pass-requires c κs = search needs
@@ -29,7 +29,7 @@ loop-less c =
     let p = c .before .before .pass .ensures in
     let at = c .before .before .before .before .before .loop in
     let s = c .before .before .before .before .before .before .before in
-    let f = pass-on _ _ _ _ _ _ (bounded _ (s .pre .1)) (omega arith) (at .inv .3) (p .marks) (p .least) in
+    let f = pass-on _ _ _ _ _ _ _ (s .pre .1 .few) (bounded _ _ (s .pre .1)) (omega arith) (at .inv .3) (p .marks) (p .least) in
     omega arith
 
 loop-again : tie.Need-loop-again Inv-loop μ-loop
@@ -37,7 +37,7 @@ loop-again c =
     let p = c .before .before .pass in
     let at = c .before .before .before .before .before .loop in
     let s = c .before .before .before .before .before .before .before in
-    let f = pass-on _ _ _ _ _ _ (bounded _ (s .pre .1)) (omega arith) (at .inv .3) (p .ensures .marks) (p .ensures .least) in
+    let f = pass-on _ _ _ _ _ _ _ (s .pre .1 .few) (bounded _ _ (s .pre .1)) (omega arith) (at .inv .3) (p .ensures .marks) (p .ensures .least) in
     (f .0, p .kept .0 ∙ at .inv .1, p .ensures .later ∙ at .inv .2, f .2)
 
 same-length : tie.Need-same-length Inv-loop μ-loop

@@ -1,6 +1,11 @@
 -- `journal_clear::turn` meets its contract: each way through it is a law of `Turns`. Assumes nothing.
 use borrow.Author.Needs.{needs}
+use Prim.Native.Nat.{_+_, _*_}
+use native.Mathlib.Omega.{arith}
 use mathlib.Core.Path.{sym, _∙_}
+use lib.ListN.{getD}
+use Rattle.journal_clear.specs.Marks.{keyOf}
+use Rattle.journal_clear.proofs.Windows.{low-product}
 use Rattle.journal_clear.proofs.Turns.{before, beyond-less, beyond, late, seen-again, seen-now}
 use Rattle.journal_clear.proofs.turn.Statement.{statement}
 use Rattle.journal_clear.proofs.turn.Tie as tie
@@ -17,14 +22,28 @@ mul-place-2 c = search needs
 slice-read-place : tie.Need-slice-read-place
 slice-read-place c = search needs
 
+mul-key : tie.Need-mul-key
+mul-key c =
+    let a = c .before .before .before in
+    omega (arith, low-product (a .args .points) (getD (a .args .journal .now) (3 * a .args .i + 1) 0) (a .pre .2))
+
+add-key : tie.Need-add-key
+add-key c =
+    let a = c .before .before .before in
+    let at = 3 * a .args .i + 1 in
+    omega (arith, c .slice-known3 .given at, low-product (a .args .points) (getD (a .args .journal .now) at 0) (a .pre .2))
+
 returns : tie.Need-returns
-returns c = before _ _ _ _ _ _ _ (c .if1 .taken)
+unfolding keyOf
+returns c = before _ _ _ _ _ _ _ _ (c .if1 .taken)
 
 returns-2 : tie.Need-returns-2
-returns-2 c = beyond-less _ _ _ _ _ _ _ (c .before .before .if1 .left) (c .before .if2 .taken) (c .if3 .taken)
+unfolding keyOf
+returns-2 c = beyond-less _ _ _ _ _ _ _ _ (c .before .before .if1 .left) (c .before .if2 .taken) (c .if3 .taken)
 
 returns-3 : tie.Need-returns-3
-returns-3 c = beyond _ _ _ _ _ _ _ (c .before .before .if1 .left) (c .before .if2 .taken) (c .if3 .left)
+unfolding keyOf
+returns-3 c = beyond _ _ _ _ _ _ _ _ (c .before .before .if1 .left) (c .before .if2 .taken) (c .if3 .left)
 
 mul-if4 : tie.Need-mul-if4
 mul-if4 c = search needs
@@ -36,7 +55,8 @@ slice-read-if4 : tie.Need-slice-read-if4
 slice-read-if4 c = search needs
 
 returns-4 : tie.Need-returns-4
-returns-4 c = late _ _ _ _ _ _ _ (c .before .before .before .if1 .left) (c .before .before .if2 .left) (c .if4 .taken)
+unfolding keyOf
+returns-4 c = late _ _ _ _ _ _ _ _ (c .before .before .before .if1 .left) (c .before .before .if2 .left) (c .if4 .taken)
 
 has-requires : tie.Need-has-requires
 has-requires c κs = search needs
@@ -57,9 +77,10 @@ same-length-2 : tie.Need-same-length-2
 same-length-2 c = search needs
 
 returns-5 : tie.Need-returns-5
+unfolding keyOf
 returns-5 c =
     let a = c .before .before .before in
-    seen-again _ _ _ _ _ _ _ (a .before .before .before .if1 .left) (a .before .before .if2 .left) (a .if4 .left) (sym (c .before .has .ensures) ∙ c .if5 .taken)
+    seen-again _ _ _ _ _ _ _ _ (a .before .before .before .if1 .left) (a .before .before .if2 .left) (a .if4 .left) (sym (c .before .has .ensures) ∙ c .if5 .taken)
 
 see-requires : tie.Need-see-requires
 see-requires c κs = search needs
@@ -68,11 +89,12 @@ same-length-3 : tie.Need-same-length-3
 same-length-3 c = search needs
 
 returns-6 : tie.Need-returns-6
+unfolding keyOf
 returns-6 c =
     let d = c .before .before in
     let b = d .before .before .before in
     let a = b .before .before in
-    seen-now _ _ _ _ _ _ _ (a .before .before .before .if1 .left) (a .before .before .if2 .left) (a .if4 .left) _ (sym (b .has .ensures) ∙ d .before .before .if5 .left) (d .see .ensures)
+    seen-now _ _ _ _ _ _ _ _ (a .before .before .before .if1 .left) (a .before .before .if2 .left) (a .if4 .left) _ (sym (b .has .ensures) ∙ d .before .before .if5 .left) (d .see .ensures)
 
 pub turn-spec : {M : Type 1} → statement M
 turn-spec =
@@ -82,6 +104,8 @@ turn-spec =
     add-place
     mul-place-2
     slice-read-place
+    mul-key
+    add-key
     returns
     returns-2
     returns-3
