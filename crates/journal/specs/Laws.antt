@@ -21,6 +21,7 @@ abbrev pub ShowsNewest : ℕ → List Reading → Option Reading → Type 0
 ShowsNewest T rs none = (r : Reading) → List·Memᴰ r rs → T < r .stamp
 ShowsNewest T rs (some m) = IsNewest T rs m
 
+-- of all readings and every T
 abbrev pub ShownIsNewest : Type 0
 ShownIsNewest = (T : ℕ) (rs : List Reading) → ShowsNewest T rs (shown T rs)
 

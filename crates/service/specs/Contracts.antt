@@ -20,6 +20,7 @@ abbrev pub freshIf : Verdict → Registration → Service
 freshIf Accepted r = freshService r
 freshIf (Refused refusal) r = zeroService
 
+-- the answer of `fresh`: verdict and record
 abbrev pub freshOf : Registration → Fresh
 freshOf r = record { verdict = soundness r; service = freshIf (soundness r) r }
 
@@ -41,13 +42,13 @@ pub record Submits (s : Service) (j : List ℕ) (clock code day quarter : ℕ) (
   pub answers : answer ≡ submittedOf (callOn s j (Submission clock code day quarter value) .seen)
   pub journal : j′ ≡ callOn s j (Submission clock code day quarter value) .journal
 
--- a clear does
+-- a clear leaves record and journal as the definition says, and answers so
 pub record Clears (s : Service) (j : List ℕ) (day stamp : ℕ) (s′ : Service) (answer : Cleared) (j′ : List ℕ) : Type 0 where
   pub service : s′ ≡ callOn s j (Clear day stamp) .service
   pub answers : answer ≡ clearedOf (callOn s j (Clear day stamp) .seen)
   pub journal : j′ ≡ callOn s j (Clear day stamp) .journal
 
--- an evaluation, which is lent neither to alter, leaves the result list and answers as the definition says
+-- an evaluation alters neither record nor journal; it leaves the result list as the definition says, and answers so
 pub record Evaluates (s : Service) (j : List ℕ) (day quarter T : ℕ) (lent : List ℕ) (answer : Evaluated) (lent′ : List ℕ) : Type 0 where
   pub answers : answer ≡ evaluatedOf (callOn s j (Evaluation day quarter T lent) .seen)
   pub result : lent′ ≡ callOn s j (Evaluation day quarter T lent) .seen .result

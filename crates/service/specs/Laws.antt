@@ -15,13 +15,14 @@ lentBy (Submission clock code day quarter value) = []
 lentBy (Clear day stamp) = []
 lentBy (Evaluation day quarter T lent) = lent
 
--- a refused call alters nothing and returns 0, whatever record and journal hold
+-- a call leaves record, journal and the list lent as they were, and returns 0
 pub record Unaltered (s : Service) (j : List ℕ) (call : Call) : Type 0 where
   pub service : callOn s j call .service ≡ s
   pub journal : callOn s j call .journal ≡ j
   pub result : callOn s j call .seen .result ≡ lentBy call
   pub number : callOn s j call .seen .number ≡ 0
 
+-- so does every refused call, whatever record and journal hold
 abbrev pub RefusedAltersNothing : Type 0
 RefusedAltersNothing = (s : Service) (j : List ℕ) (call : Call) → refused (callOn s j call .seen) ≡ true → Unaltered s j call
 

@@ -1,4 +1,4 @@
--- What the code's helpers find out on the way to an answer. Assumes nothing.
+-- What the code finds out on the way to an answer. Assumes nothing.
 use Prim.Native.Nat.{ℕ}
 use mathlib.Core.Path.{_≡_}
 use mathlib.Core.Bool.{true, false, cond}
