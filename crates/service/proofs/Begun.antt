@@ -1,20 +1,22 @@
 -- A fresh service: refused with a record of zeros where its registration is damaged, and otherwise made from it. Assumes nothing.
-use mathlib.Core.Path.{_≡_}
-use mathlib.Core.Bool.{true, false}
+use mathlib.Core.Path.{_≡_, sym, _∙_}
+use Rattle.answers.specs.declared.Refusal.{Refusal}
+use Rattle.answers.specs.declared.Verdict.{Verdict}
 use Rattle.answers.specs.declared.Verdict.the-variants.{Accepted, Refused}
-use Rattle.answers.specs.declared.Refusal.the-variants.{Damaged}
-use Rattle.answers.specs.Order.{refuse_if_else_}
 use Rattle.registration.specs.declared.Registration.{Registration}
-use Rattle.registration.specs.Damage.{isDamaged, empty}
+use Rattle.registration.specs.Damage.{soundness, empty}
 use Rattle.service.specs.declared.Fresh.{Fresh}
 use Rattle.service.specs.Record.{freshService}
 use Rattle.service.specs.Contracts.{freshOf}
 
-pub fresh-refused : (r zeros : Registration) → isDamaged r ≡ true → zeros ≡ empty
-    → _≡_ {A = Fresh} (record { verdict = Refused Damaged; service = freshService zeros }) (freshOf r)
-unfolding refuse_if_else_
-fresh-refused r zeros d e = rw (d, e)
+module _ (r : Registration) (verdict : Verdict) (e : verdict ≡ soundness r) where
+  pub fresh-refused : (refusal : Refusal) (zeros : Registration) → verdict ≡ Refused refusal → zeros ≡ empty
+      → _≡_ {A = Fresh} (record { verdict = Refused refusal; service = freshService zeros }) (freshOf r)
+  fresh-refused refusal zeros q z =
+      let v : soundness r ≡ Refused refusal = sym e ∙ q in
+      rw (v, z)
 
-pub fresh-made : (r : Registration) → isDamaged r ≡ false → _≡_ {A = Fresh} (record { verdict = Accepted; service = freshService r }) (freshOf r)
-unfolding refuse_if_else_
-fresh-made r d = rw d
+  pub fresh-made : verdict ≡ Accepted → _≡_ {A = Fresh} (record { verdict = verdict; service = freshService r }) (freshOf r)
+  fresh-made q =
+      let v : soundness r ≡ Accepted = sym e ∙ q in
+      rw (q, v)

@@ -6,7 +6,6 @@ use mathlib.Core.Bool.{true, false}
 use mathlib.Core.List.{List, [], _∷_, _++_}
 use lib.IntN.{ℤ, natAbs}
 use lib.ListN.{length, length-append}
-use borrow.Author.Tests.{ltb-false, not-false}
 use Rattle.answers.specs.declared.Refusal.{Refusal}
 use Rattle.answers.specs.declared.Verdict.{Verdict}
 use Rattle.answers.specs.declared.Verdict.the-variants.{Accepted, Refused}
@@ -36,6 +35,7 @@ use Rattle.service.proofs.Sound.{Sound, undamaged-sound}
 use Rattle.service.proofs.Undamaged.{few-points, right-of, fits-of}
 use Rattle.service.proofs.Own.{evaluation-own}
 use Rattle.service.proofs.Submissions.{admitted}
+use Rattle.service.proofs.Evaluations.{evaluating}
 
 -- the record's changing part is that of the group it holds
 state-of : (s : Service) (j : List ℕ) → stateOf (s .state .last) (groupIn s j) ≡ s .state
@@ -160,16 +160,10 @@ module _ (s : Service) (j : List ℕ) (day quarter T : ℕ) (lent : List ℕ) wh
 
     pub evaluation-asked : Shareable (s .registration) × (quarterExists day quarter ≡ true) × (3 * s .state .entries ≤ length j)
         × Right (entries (s .state .entries) j) × (sizeOf (s .registration) ≤ length lent)
-    unfolding evaluationVerdict
     evaluation-asked =
         let k = evaluation-sound in
-        let a = passed _ _ _ v in
-        let b = passed _ _ _ (a .1) in
-        let c = passed _ _ _ (b .1) in
-        let d = passed _ _ _ (c .1) in
-        let e = passed _ _ _ (d .1) in
-        let f = passed _ _ _ (e .1) in
-        (undamaged-is-shareable _ (k .registered), not-false _ (b .0), fits-of s j k, right-of _ _ (few-points _ _ k) k, ltb-false _ _ (f .0))
+        let m = evaluating _ _ _ _ _ _ v in
+        (undamaged-is-shareable _ (k .registered), m .exists, fits-of s j k, right-of _ _ (few-points _ _ k) k, m .long)
 
     pub evaluates-accepted : (verdict : Verdict) (rounds : ℕ) (lent′ : List ℕ) → verdict ≡ Accepted
         → Allocated (s .registration) (magnitudesIn (s .registration) (entries (s .state .entries) j) day quarter T) lent lent′ rounds

@@ -4,11 +4,13 @@ use native.Mathlib.Omega.{arith}
 use mathlib.Core.Path.{_≡_, refl}
 use mathlib.Core.Bool.{true}
 use mathlib.Core.List.{List}
+use lib.ListN.{length}
 use borrow.Author.Tests.{ltb-false, not-false}
 use Rattle.answers.specs.declared.Verdict.the-variants.{Accepted}
 use Rattle.answers.proofs.Refusals.{passed}
 use Rattle.calendar.specs.Quarters.{quarterExists}
 use Rattle.calendar.proofs.Laws.{exists-day}
+use Rattle.allocation.specs.Result.{sizeOf}
 use Rattle.evaluation.specs.Evaluation.{evaluationOf}
 use Rattle.evaluation.proofs.Alike.{evaluation-alike}
 use Rattle.service.specs.Group.{Group, readingsOf}
@@ -32,6 +34,7 @@ module _ (last : ℕ) (G : Group) (day quarter T : ℕ) (lent : List ℕ) where
     pub not-cleared : earliest (G .keptday) ≤ day
     pub from : G .keptstamp ≤ T
     pub to : T ≤ last
+    pub long : sizeOf (G .registration) ≤ length lent
 
   -- it has passed each test
   pub evaluating : evaluationVerdict last G day quarter T lent ≡ Accepted → Evaluating
@@ -42,7 +45,14 @@ module _ (last : ℕ) (G : Group) (day quarter T : ℕ) (lent : List ℕ) where
       let c = passed _ _ _ (b .1) in
       let d = passed _ _ _ (c .1) in
       let e = passed _ _ _ (d .1) in
-      record { exists = not-false _ (b .0); not-cleared = ltb-false _ _ (c .0); from = ltb-false _ _ (d .0); to = ltb-false _ _ (e .0) }
+      let f = passed _ _ _ (e .1) in
+      record {
+        exists = not-false _ (b .0);
+        not-cleared = ltb-false _ _ (c .0);
+        from = ltb-false _ _ (d .0);
+        to = ltb-false _ _ (e .0);
+        long = ltb-false _ _ (f .0);
+      }
 
   module _ (book : Book) (rel : Related last G (book .page)) (a : Evaluating) where
     -- journal and book show the same in the four weeks, so the results are the same

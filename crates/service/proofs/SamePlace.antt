@@ -1,31 +1,17 @@
 -- Two codes, days and quarters have the same place exactly where they are the same. Assumes nothing.
 use Prim.Native.Nat.{ℕ, _≤_, _<_}
-use native.Mathlib.Omega.{arith}
-use native.Mathlib.Nat.{not-suc-le-zero, le-of-suc-le-suc}
-use mathlib.Core.Path.{_≡_, sym, _∙_, ap}
+use mathlib.Core.Path.{_≡_, sym, _∙_}
 use mathlib.Core.Bool.{_&&_, true≢false}
-use mathlib.Core.List.{List, [], _∷_}
+use mathlib.Core.List.{List}
 use lib.Dec.{eqb}
-use lib.ListN.{length, getD}
+use lib.ListN.{length}
 use borrow.Author.Tests.{eqb-true, eq-eqb, ne-eqb}
 use Rattle.lists.proofs.Cases.{by-test}
 use Rattle.lists.proofs.Below.{and-left, and-right}
 use Rattle.journal.specs.Entries.{placeOf}
 use Rattle.journal.proofs.PlaceLaws.{pointIn-place, dayIn-place, quarterIn-place}
 use Rattle.points.specs.Points.{indexOf}
-
--- a code that is in a list stands at its index
-pub index-found : (code : ℕ) (xs : List ℕ) → indexOf code xs < length xs → getD xs (indexOf code xs) 0 ≡ code
-unfolding indexOf
-index-found code [] h = absurd (not-suc-le-zero h)
-index-found code (x ∷ xs) h =
-    by-test (eqb code x) (λ e. rw e (sym (eqb-true code x e))) (λ e. rw e (index-found code xs (le-of-suc-le-suc (rw e at h))))
-
--- so codes with one index are one code
-index-same : (b c : ℕ) (xs : List ℕ) → indexOf b xs < length xs → indexOf b xs ≡ indexOf c xs → b ≡ c
-index-same b c xs h e =
-    let k : indexOf c xs < length xs = omega arith in
-    sym (index-found b xs h) ∙ ap (λ (i : ℕ). getD xs i 0) e ∙ index-found c xs k
+use Rattle.points.proofs.Index.{index-same}
 
 -- two codes, of which the first is one of the group's, each with its day and quarter
 module _ (roll : List ℕ) (b c d q d′ q′ : ℕ) (hb : indexOf b roll < length roll)

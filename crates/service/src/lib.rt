@@ -2,7 +2,6 @@
 ghost use mathlib.Core.Path.{_≡_};
 ghost use Rattle.service.specs.Record.{withState};
 ghost use Rattle.service.specs.Contracts.{freshOf, Submits, Clears, Evaluates};
-use answers::Refusal;
 use answers::Verdict;
 use registration::Registration;
 
@@ -85,10 +84,11 @@ impl Service {
             kept_day: 0,
             entries: 0,
         };
-        if registration_damage::damaged(registration) {
+        let verdict = registration_damage::soundness(registration);
+        if let Verdict::Refused(refusal) = verdict {
             let zeros = Registration::empty();
             return Fresh {
-                verdict: Verdict::Refused(Refusal::Damaged),
+                verdict,
                 service: Service {
                     registration: zeros,
                     state,
@@ -96,7 +96,7 @@ impl Service {
             };
         }
         Fresh {
-            verdict: Verdict::Accepted,
+            verdict,
             service: Service {
                 registration,
                 state,
