@@ -27,7 +27,7 @@ pub use Rattle.columns.proofs.Clauses.{total-nil, total-cons, columnsOf
 pub use Rattle.columns.proofs.Clauses.{firstLine-nil, firstLine-cons, afterLine-nil, afterLine-cons}
 pub use Rattle.columns.proofs.Fill.{length-column}
 pub use Rattle.columns.proofs.Lists.{fits-more, fits-first, fitting-length, length-columns, columns-append, total-append}
-pub use Rattle.columns.proofs.Lines.{Plain, plain-append, plain-column, plain-columns, first-plain, after-plain, lines-join, first-part, after-part, first-line-length}
+pub use Rattle.columns.proofs.Lines.{Plain, plain-append, plain-column, plain-columns, first-plain, after-plain, lines-join, first-part, after-part, first-line-length, line-part, rest-part, end-within}
 
 -- ---- one column
 

@@ -1,5 +1,5 @@
 -- The lines of a text: the first one byte by byte, what joins to the text, and bytes without an LF. Assumes nothing.
-use Prim.Native.Nat.{ℕ, zero, suc, _+_, _/_, _%_, _≤_, _<_}
+use Prim.Native.Nat.{ℕ, zero, suc, _+_, _-_, _/_, _%_, _≤_, _<_}
 use mathlib.Core.Path.{_≡_, refl, sym, ap, _∙_}
 use mathlib.Core.Bool.{Bool, true, false, cond, not, _&&_}
 use mathlib.Core.List.{List, [], _∷_, _++_}
@@ -7,8 +7,8 @@ use native.Mathlib.Omega.{arith}
 use native.Mathlib.Numerals.{add-one}
 use borrow.Author.Tests.{eq-eqb, ne-eqb}
 use lib.Dec.{eqb, eqb·suc-zero}
-use lib.ListN.{length, getD, take, drop, length-append}
-use lib.Seq.{drop-cons, drop-length, take-append-seam, drop-append-seam}
+use lib.ListN.{length, getD, take, drop, length-append, length-drop}
+use lib.Seq.{drop-cons, drop-drop, drop-length, take-append-seam, drop-append-seam}
 use Rattle.columns.specs.Column.{byteBefore, leadOf, columnOf}
 use Rattle.columns.specs.Fields.{columnsOf}
 use Rattle.columns.specs.Line.{firstLine, afterLine}
@@ -92,3 +92,17 @@ after-part text = ap (drop (length (firstLine text))) (sym (lines-join text)) �
 
 pub first-line-length : (text : List ℕ) → length (firstLine text) ≤ length text
 first-line-length text = omega (arith, ap length (lines-join text), length-append (firstLine text) (afterLine text))
+
+-- ---- a line as a part of the text, from its start to its end
+
+module _ (text : List ℕ) (at end : ℕ) (ends : end ≡ at + length (firstLine (drop at text))) where
+  pub line-part : take (end - at) (drop at text) ≡ firstLine (drop at text)
+  line-part =
+      let long : end - at ≡ length (firstLine (drop at text)) = omega arith in
+      rw long (first-part (drop at text))
+
+  pub rest-part : drop end text ≡ afterLine (drop at text)
+  rest-part = rw (ends, ← drop-drop) (after-part (drop at text))
+
+  pub end-within : at ≤ length text → end ≤ length text
+  end-within h = omega (arith, first-line-length (drop at text), length-drop at text)

@@ -17,6 +17,10 @@ use Rattle.lists.proofs.Below.{both}
 use Rattle.lines.specs.Lines.{lineOf, lineIn}
 use Rattle.lines.specs.Laws.{LineReadBack, LineWrittenAgain, LineFirst}
 
+-- a line is as long as its columns together, its letter and its LF
+pub length-line : (letter : ℕ) (ws ns : List ℕ) → length ws ≡ length ns → length (lineOf letter ws ns) ≡ total ws + 2
+length-line letter ws ns e = rw (length-append, length-columns ws ns e) (omega arith)
+
 pub line-first : LineFirst
 line-first letter widths numbers rest other =
     let bytes = letter ∷ columnsOf widths numbers in

@@ -1,10 +1,11 @@
-// Lines with a letter and two or three numbers in columns, read.
+// Lines with a letter and two or three numbers in columns, read and written.
 ghost use mathlib.Core.Path.{_≡_};
 ghost use mathlib.Core.List.{[], _∷_};
 ghost use Prim.Native.Nat.{_+_, _≤_};
 ghost use lib.ListN.{length};
 ghost use Rattle.columns.specs.Fields.{numbersIn};
-ghost use Rattle.lines.specs.Lines.{isFramed, lineIn, twoOf, threeOf};
+ghost use Rattle.lists.specs.Place.{Put};
+ghost use Rattle.lines.specs.Lines.{lineOf, isFramed, lineIn, twoOf, threeOf};
 use columns::Number;
 
 // Two numbers, if both are in their columns.
@@ -49,7 +50,7 @@ pub fn read_three(bytes: &[u8], first: usize, second: usize, third: usize) -> Th
 }
 
 // Whether a line has this letter, so many bytes, LF, and nothing else.
-fn is_framed(line: &[u8], letter: u8, size: usize) -> bool
+pub fn is_framed(line: &[u8], letter: u8, size: usize) -> bool
     ensures { λ r. ⌜ r ≡ isFramed letter size (now (line .entry)) ⌝ }
 {
     if line.len() < 2 {
@@ -84,4 +85,45 @@ pub fn line_of_three(line: &[u8], letter: u8, first: usize, second: usize, third
         return read_three(&line[1..], first, second, third);
     }
     Three::Bad
+}
+
+// Puts a line with this letter and two columns at a place of a buffer, and returns the place after it.
+pub fn put_two(
+    out: &mut [u8],
+    start: usize,
+    letter: u8,
+    first: usize,
+    second: usize,
+    one: u64,
+    other: u64,
+) -> usize
+    requires { ⌜ start + (first + second + 2) ≤ length (now out) ⌝ }
+    ensures { λ r. ⌜ Put start (lineOf letter (first ∷ second ∷ []) (one ∷ other ∷ [])) (now (out .entry)) (now (out .exit)) r ⌝ }
+{
+    let after_letter = columns::put_byte(out, start, letter);
+    let after_one = columns::put_number(out, after_letter, first, one);
+    let after_other = columns::put_number(out, after_one, second, other);
+    columns::put_byte(out, after_other, columns::LINE_FEED)
+}
+
+// Puts a line with this letter and three columns at a place of a buffer, and returns the place after it.
+pub fn put_three(
+    out: &mut [u8],
+    start: usize,
+    letter: u8,
+    first: usize,
+    second: usize,
+    third: usize,
+    one: u64,
+    other: u64,
+    last: u64,
+) -> usize
+    requires { ⌜ start + (first + second + third + 2) ≤ length (now out) ⌝ }
+    ensures { λ r. ⌜ Put start (lineOf letter (first ∷ second ∷ third ∷ []) (one ∷ other ∷ last ∷ [])) (now (out .entry)) (now (out .exit)) r ⌝ }
+{
+    let after_letter = columns::put_byte(out, start, letter);
+    let after_one = columns::put_number(out, after_letter, first, one);
+    let after_other = columns::put_number(out, after_one, second, other);
+    let after_last = columns::put_number(out, after_other, third, last);
+    columns::put_byte(out, after_last, columns::LINE_FEED)
 }

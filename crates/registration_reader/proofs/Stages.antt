@@ -5,14 +5,13 @@ use mathlib.Core.List.{List}
 use mathlib.Core.Option.{Option}
 use native.Mathlib.Nat.{sub-zero}
 use native.Mathlib.Omega.{arith}
-use lib.ListN.{length, take, drop, length-drop}
-use lib.Seq.{drop-drop}
+use lib.ListN.{length, take, drop}
 use Rattle.answers.specs.declared.Refusal.{Refusal}
 use Rattle.answers.specs.declared.Verdict.{Verdict}
 use Rattle.answers.specs.declared.Verdict.the-variants.{Accepted, Refused}
 use Rattle.columns.specs.Fields.{nth}
 use Rattle.columns.specs.Line.{firstLine, afterLine}
-use Rattle.columns.proofs.Laws.{first-part, after-part, first-line-length}
+use Rattle.columns.proofs.Laws.{line-part, rest-part, end-within}
 use Rattle.lines.specs.Lines.{lineIn}
 use Rattle.registration.specs.declared.Registration.{Registration}
 use Rattle.registration_text.specs.declared.Answer.{Answer}
@@ -21,20 +20,6 @@ use Rattle.registration_text.specs.Reader.{Stage, going, unless, answered, fixe
 use Rattle.registration_reader.specs.Parts.{Reached}
 use Rattle.registration_reader.proofs.Answers.{was-refused, was-accepted}
 use Rattle.registration_reader.proofs.Placing.{pairs-producers, pairs-consumers}
-
--- ---- a line as a part of the text, from its start to its end
-
-module _ (text : List ℕ) (at end : ℕ) (ends : end ≡ at + length (firstLine (drop at text))) where
-  pub line-part : take (end - at) (drop at text) ≡ firstLine (drop at text)
-  line-part =
-      let long : end - at ≡ length (firstLine (drop at text)) = omega arith in
-      rw long (first-part (drop at text))
-
-  pub rest-part : drop end text ≡ afterLine (drop at text)
-  rest-part = rw (ends, ← drop-drop) (after-part (drop at text))
-
-  pub end-within : at ≤ length text → end ≤ length text
-  end-within h = omega (arith, first-line-length (drop at text), length-drop at text)
 
 -- ---- lines that are read in one way: the verdict on a line, and what it puts into the registration
 

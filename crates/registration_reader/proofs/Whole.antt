@@ -25,7 +25,7 @@ use Rattle.registration_text.specs.Lines.{letterG, widthsG}
 use Rattle.registration_text.specs.Reader.{Stage, stopped, going, unless, answered, verdictG, verdictOfAll, withCounts, readG, readD, readO, readText}
 use Rattle.registration_reader.specs.Parts.{Reached, groupAnswer}
 use Rattle.registration_reader.proofs.Answers.{was-refused, was-accepted}
-use Rattle.registration_reader.proofs.Stages.{line-part, rest-part}
+use Rattle.columns.proofs.Laws.{line-part, rest-part}
 
 -- ---- the G line
 

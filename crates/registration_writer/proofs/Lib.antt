@@ -1,3 +1,2 @@
-pub mod LineParts
 pub mod Sizes
 pub mod WholeText

@@ -8,7 +8,7 @@ use lib.ListN.{length, getD, length-append}
 use Rattle.columns.specs.Fields.{columnsOf, total}
 use Rattle.lists.specs.Place.{Put}
 use Rattle.columns.proofs.Laws.{columnsOf-nil, columns-append, length-columns}
-use Rattle.lines.specs.Lines.{lineOf}
+use Rattle.lines.proofs.Laws.{length-line}
 use Rattle.registration.specs.declared.Registration.{Registration}
 use Rattle.lists.specs.Below.{sumBelow}
 use Rattle.registration.specs.Rules.{countAt, sourceAt, keyAt}
@@ -41,9 +41,6 @@ pairs-joined source key n =
     (λ i m. columns-append (4 ∷ 6 ∷ []) (source i ∷ key i ∷ []) _ _ refl) n
 
 -- ---- lengths
-
-pub length-line : (letter : ℕ) (ws ns : List ℕ) → length ws ≡ length ns → length (lineOf letter ws ns) ≡ total ws + 2
-length-line letter ws ns e = rw (length-append, length-columns ws ns e) (omega arith)
 
 pub as-many-pairs : (source key : ℕ → ℕ) (i n : ℕ) → length (widthsOfPairs n) ≡ length (pairsFrom source key i n)
 unfolding widthsOfPairs pairsFrom

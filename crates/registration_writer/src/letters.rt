@@ -61,21 +61,10 @@ pub fn write_group(out: &mut [u8], start: usize, registration: Registration) -> 
     requires { ⌜ start + 12 ≤ length (now out) ⌝ }
     ensures { λ r. ⌜ Put start (lineG registration) (now (out .entry)) (now (out .exit)) r ⌝ }
 {
-    let after_letter = columns::put_byte(out, start, b'G');
-    let after_producers = columns::put_number(out, after_letter, 4, registration.producers as u64);
-    let after_consumers = columns::put_number(
-        out,
-        after_producers,
-        4,
-        registration.consumers as u64,
-    );
-    let after_iteration = columns::put_number(
-        out,
-        after_consumers,
-        2,
-        registration.iteration as u64,
-    );
-    columns::put_byte(out, after_iteration, columns::LINE_FEED)
+    let producers = registration.producers as u64;
+    let consumers = registration.consumers as u64;
+    let iteration = registration.iteration as u64;
+    lines::put_three(out, start, b'G', 4, 4, 2, producers, consumers, iteration)
 }
 
 // Writes a producer's D line.
@@ -83,10 +72,7 @@ fn write_producer(out: &mut [u8], start: usize, code: u64, status: u8) -> usize
     requires { ⌜ start + 23 ≤ length (now out) ⌝ }
     ensures { λ r. ⌜ Put start (lineOf letterD widthsD (code ∷ status ∷ [])) (now (out .entry)) (now (out .exit)) r ⌝ }
 {
-    let after_letter = columns::put_byte(out, start, b'D');
-    let after_code = columns::put_number(out, after_letter, 19, code);
-    let after_status = columns::put_number(out, after_code, 2, status as u64);
-    columns::put_byte(out, after_status, columns::LINE_FEED)
+    lines::put_two(out, start, b'D', 19, 2, code, status as u64)
 }
 
 // Writes the D lines of all producers.

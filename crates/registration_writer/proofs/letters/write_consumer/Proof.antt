@@ -3,7 +3,7 @@ use native.Mathlib.Omega.{arith}
 use mathlib.Core.Path.{refl}
 use Rattle.registration_text.specs.Lines.{widthsO}
 use borrow.Author.Needs.{needs}
-use Rattle.registration_writer.proofs.LineParts.{line-in-parts}
+use Rattle.lines.proofs.Writing.{line-in-parts}
 use Rattle.registration_writer.proofs.Sizes.{fixed-end, pairs-end}
 use Rattle.registration_writer.proofs.letters.write_consumer.Statement.{statement}
 use Rattle.registration_writer.proofs.letters.write_consumer.Tie as tie

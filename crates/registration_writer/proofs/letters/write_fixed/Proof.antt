@@ -2,7 +2,7 @@
 use native.Mathlib.Omega.{arith}
 use borrow.Author.Needs.{needs}
 use Rattle.lists.proofs.Pieces.{put-on}
-use Rattle.registration_writer.proofs.LineParts.{column-end, field, fields}
+use Rattle.lines.proofs.Writing.{column-end, field, fields}
 use Rattle.registration_writer.proofs.letters.write_fixed.Statement.{statement}
 use Rattle.registration_writer.proofs.letters.write_fixed.Tie as tie
 

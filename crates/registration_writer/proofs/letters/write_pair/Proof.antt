@@ -1,7 +1,7 @@
 -- `registration_writer::letters::write_pair` meets its contract: two columns are put one after the other. Assumes nothing.
 use native.Mathlib.Omega.{arith}
 use borrow.Author.Needs.{needs}
-use Rattle.registration_writer.proofs.LineParts.{column-end, field, fields}
+use Rattle.lines.proofs.Writing.{column-end, field, fields}
 use Rattle.registration_writer.proofs.letters.write_pair.Statement.{statement}
 use Rattle.registration_writer.proofs.letters.write_pair.Tie as tie
 
