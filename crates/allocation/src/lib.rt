@@ -7,7 +7,7 @@ ghost use Rattle.lists.specs.Place.{Put};
 ghost use Rattle.registration.specs.Rules.{points, placeAt};
 ghost use Rattle.allocation.specs.Input.{Shareable, Magnitudes};
 ghost use Rattle.allocation.specs.Rounds.{roundsOf, offerOf, shareOf};
-ghost use Rattle.allocation.specs.Result.{pairsOf, sizeOf};
+ghost use Rattle.allocation.specs.Result.{pairsOf, pairsIn, sizeOf};
 ghost use Rattle.allocation.specs.Mean.{nearest};
 ghost use Rattle.allocation.specs.Working.{PairsWithin, RoundMade, Allocated};
 use registration::Registration;
@@ -48,10 +48,10 @@ pub fn rounds(iteration: u8, points: usize, consumers: usize) -> usize
     ROUNDS_MOST
 }
 
-// How many numbers a result has: one for each pair, each consumer and each producer.
-pub fn size(registration: Registration) -> usize
+// How many pairs a group has: each consumer with each producer that it names.
+pub fn pairs(registration: Registration) -> usize
     requires { ⌜ points registration ≤ 64 ⌝ }
-    ensures { λ r. ⌜ r ≡ sizeOf registration ⌝ }
+    ensures { λ r. ⌜ (r ≡ pairsIn registration) × (r ≤ 16320) ⌝ }
 {
     let counts = registration.counts;
     let consumers = registration.consumers;
@@ -61,7 +61,15 @@ pub fn size(registration: Registration) -> usize
         pairs += counts[consumer] as usize;
         consumer += 1;
     }
-    pairs + consumers + registration.producers
+    pairs
+}
+
+// How many numbers a result has: one for each pair, each consumer and each producer.
+pub fn size(registration: Registration) -> usize
+    requires { ⌜ points registration ≤ 64 ⌝ }
+    ensures { λ r. ⌜ r ≡ sizeOf registration ⌝ }
+{
+    pairs(registration) + registration.consumers + registration.producers
 }
 
 // A pair's share: the smaller of the remaining withdrawal and what the key gives of the supply, rounded down.

@@ -1,4 +1,4 @@
--- `allocation::size` meets its contract: the pairs of the consumers passed are counted. Assumes nothing.
+-- `allocation::pairs` meets its contract: the pairs of the consumers passed are counted. Assumes nothing.
 use borrow.Author.Needs.{needs}
 use native.Mathlib.Omega.{arith}
 use Prim.Native.Nat.{ℕ, _-_, _*_, _≤_, _<_}
@@ -9,15 +9,15 @@ use mir.Val.{Fits}
 use lib.ListN.{getD}
 use Rattle.lists.specs.Below.{sumBelow}
 use Rattle.lists.proofs.Below.{sum-none, sum-next}
-use Rattle.allocation.proofs.size.Statement.{statement}
-use Rattle.allocation.proofs.size.Tie as tie
+use Rattle.allocation.proofs.pairs.Statement.{statement}
+use Rattle.allocation.proofs.pairs.Tie as tie
 
 abbrev Inv-loop : tie.InvT-loop
-Inv-loop registration counts consumers pairs₀ consumer₀ pairs consumer =
+Inv-loop counts consumers pairs₀ consumer₀ pairs consumer =
     (consumer ≤ consumers) × (pairs ≡ sumBelow (λ i. getD counts i 0) consumer) × (pairs ≤ 255 * consumer)
 
 abbrev μ-loop : tie.MeasureT-loop
-μ-loop registration counts consumers pairs₀ consumer₀ pairs consumer = consumers - consumer
+μ-loop counts consumers pairs₀ consumer₀ pairs consumer = consumers - consumer
 
 abbrev counts-of : tie.In-loop Inv-loop μ-loop → List ℕ
 counts-of c = c .before .before .before .args .registration .counts
@@ -48,20 +48,14 @@ loop-again c =
     let i = c .before .loop .consumer in
     (omega arith, omega (arith, sum-next (λ k. getD (counts-of c) k 0) i), omega (arith, byte c i))
 
-add-result : tie.Need-add-result Inv-loop μ-loop
-add-result c = search needs
-
-add-result-2 : tie.Need-add-result-2 Inv-loop μ-loop
-add-result-2 c = search needs
-
 returns : tie.Need-returns Inv-loop μ-loop
 returns c =
-    let r = c .before .before .before .before .args .registration in
-    let e : c .before .before .loop .consumer ≡ r .consumers = omega arith in
-    omega (arith, subst (λ (n : ℕ). c .before .before .loop .pairs ≡ sumBelow (λ i. getD (r .counts) i 0) n) e (c .before .before .loop .inv .1))
+    let r = c .before .before .before .args .registration in
+    let e : c .before .loop .consumer ≡ r .consumers = omega arith in
+    (subst (λ (n : ℕ). c .before .loop .pairs ≡ sumBelow (λ i. getD (r .counts) i 0) n) e (c .before .loop .inv .1), omega arith)
 
-pub size-spec : {M : Type 1} → statement M
-size-spec =
+pub pairs-spec : {M : Type 1} → statement M
+pairs-spec =
     tie.close
     (tie.spec
     Inv-loop
@@ -73,6 +67,4 @@ size-spec =
     add-consumer
     loop-less
     loop-again
-    add-result
-    add-result-2
     returns)
