@@ -23,3 +23,4 @@ pub mod Own
 pub mod Told
 pub mod Cores
 pub mod Cases
+pub mod Evaluating

@@ -31,3 +31,9 @@ abbrev pub LengthStays : Type 0
 LengthStays =
     (s : Service) (j : List ℕ) (call : Call)
     → (length (callOn s j call .journal) ≡ length j) × (callOn s j call .service .registration ≡ s .registration)
+
+-- an evaluation alters neither record nor journal, accepted or refused
+abbrev pub EvaluationAltersNothing : Type 0
+EvaluationAltersNothing =
+    (s : Service) (j : List ℕ) (day quarter T : ℕ) (lent : List ℕ)
+    → (callOn s j (Evaluation day quarter T lent) .service ≡ s) × (callOn s j (Evaluation day quarter T lent) .journal ≡ j)

@@ -1,6 +1,6 @@
 // The service of one group: readings are submitted, old ones are cleared, quarter hours are evaluated as of any stamp from the kept one on.
 ghost use mathlib.Core.Path.{_≡_};
-ghost use Rattle.service.specs.Record.{withState};
+ghost use Rattle.service.specs.Record.{zeroService, withState};
 ghost use Rattle.service.specs.Contracts.{freshOf, Submits, Clears, Evaluates};
 use answers::Verdict;
 use registration::Registration;
@@ -74,34 +74,32 @@ impl Service {
     // How many days before an evaluated one must not be cleared, where any are.
     pub const DAYS_BEFORE: u64 = 28;
 
+    // A record of zeros, as refused calls return it.
+    pub fn empty() -> Service
+        ensures { λ r. ⌜ r ≡ zeroService ⌝ }
+    {
+        Service {
+            registration: Registration::empty(),
+            state: State {
+                last: 0,
+                kept_stamp: 0,
+                kept_day: 0,
+                entries: 0,
+            },
+        }
+    }
+
     // A service made from a registration alone: no entries, and all stamps and days 0. A damaged registration is refused.
     pub fn fresh(registration: Registration) -> Fresh
         ensures { λ r. ⌜ r ≡ freshOf registration ⌝ }
     {
-        let state = State {
-            last: 0,
-            kept_stamp: 0,
-            kept_day: 0,
-            entries: 0,
-        };
         let verdict = registration_damage::soundness(registration);
+        let mut service = Service::empty();
         if let Verdict::Refused(refusal) = verdict {
-            let zeros = Registration::empty();
-            return Fresh {
-                verdict,
-                service: Service {
-                    registration: zeros,
-                    state,
-                },
-            };
+            return Fresh { verdict, service };
         }
-        Fresh {
-            verdict,
-            service: Service {
-                registration,
-                state,
-            },
-        }
+        service.registration = registration;
+        Fresh { verdict, service }
     }
 
     // A submission on a record by value: the journal is altered in place, and the record's changing part is returned.
