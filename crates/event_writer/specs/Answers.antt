@@ -1,0 +1,87 @@
+-- The lines of answers: their letters, the widths of their columns, and the numbers in these. Assumes nothing.
+use Prim.Native.Nat.{ℕ, _+_, _*_}
+use mathlib.Core.List.{List, [], _∷_, _++_}
+use lib.ListN.{getD}
+use Rattle.lists.specs.Below.{sumBelow}
+use Rattle.lists.specs.Tables.{joined}
+use Rattle.lines.specs.Lines.{lineOf}
+use Rattle.registration.specs.declared.Registration.{Registration}
+use Rattle.registration.specs.Rules.{countAt, sourceAt}
+use Rattle.allocation.specs.Result.{pairsIn}
+
+-- the letter A
+abbrev pub letterA : ℕ
+letterA = 65
+
+-- the letter R
+abbrev pub letterR : ℕ
+letterR = 82
+
+-- the letter S
+abbrev pub letterS : ℕ
+letterS = 83
+
+-- the letter U
+abbrev pub letterU : ℕ
+letterU = 85
+
+-- the letter V
+abbrev pub letterV : ℕ
+letterV = 86
+
+-- A: answer, stamp or dropped count
+abbrev pub widthsA : List ℕ
+widthsA = 4 ∷ 13 ∷ []
+
+-- R: answer, rounds
+abbrev pub widthsR : List ℕ
+widthsR = 4 ∷ 2 ∷ []
+
+-- S: consumer, producer, share
+abbrev pub widthsS : List ℕ
+widthsS = 4 ∷ 4 ∷ 10 ∷ []
+
+-- U: consumer, remaining withdrawal; V: producer, remaining supply
+abbrev pub widthsOfRemaining : List ℕ
+widthsOfRemaining = 4 ∷ 10 ∷ []
+
+-- the answer to a submission, a clear, a malformed line or a refused registration
+abbrev pub lineA : (answer number : ℕ) → List ℕ
+lineA answer number = lineOf letterA widthsA (answer ∷ number ∷ [])
+
+-- the answer to an evaluation
+abbrev pub lineR : (answer rounds : ℕ) → List ℕ
+lineR answer rounds = lineOf letterR widthsR (answer ∷ rounds ∷ [])
+
+-- a consumer, by its number from 1, a producer's number, and the pair's share
+abbrev pub lineS : (consumer producer share : ℕ) → List ℕ
+lineS consumer producer share = lineOf letterS widthsS ((consumer + 1) ∷ producer ∷ share ∷ [])
+
+-- a consumer or a producer, by its number from 1, and what remains of its withdrawal or supply
+abbrev pub lineOfRemaining : (letter point remaining : ℕ) → List ℕ
+lineOfRemaining letter point remaining = lineOf letter widthsOfRemaining ((point + 1) ∷ remaining ∷ [])
+
+-- the S lines of a consumer, whose shares stand in the result list from a place on: one line for each producer that it names, by priority
+unfoldable pub linesOfConsumer : (source : ℕ → ℕ) → (consumer count at : ℕ) → (numbers : List ℕ) → List ℕ
+linesOfConsumer source consumer count at numbers =
+    joined (λ priority. lineS consumer (source priority) (getD numbers (at + priority) 0)) count
+
+-- the S lines: consumers in order, priorities within
+unfoldable pub linesS : Registration → (numbers : List ℕ) → List ℕ
+linesS r numbers =
+    joined (λ consumer. linesOfConsumer (sourceAt r consumer) consumer (countAt r consumer) (sumBelow (countAt r) consumer) numbers) (r .consumers)
+
+-- the U or V lines: so many numbers of the result list from a place on
+unfoldable pub linesOfRemaining : (letter at count : ℕ) → (numbers : List ℕ) → List ℕ
+linesOfRemaining letter at count numbers = joined (λ point. lineOfRemaining letter point (getD numbers (at + point) 0)) count
+
+-- a result list, line by line: pair shares, remaining withdrawals, remaining supplies
+unfoldable pub linesOfResult : Registration → (numbers : List ℕ) → List ℕ
+linesOfResult r numbers =
+    linesS r numbers
+    ++ (linesOfRemaining letterU (pairsIn r) (r .consumers) numbers
+    ++ linesOfRemaining letterV (pairsIn r + r .consumers) (r .producers) numbers)
+
+-- how many bytes these lines take: 20 for each pair, 16 for each point
+abbrev pub bytesOfResult : Registration → ℕ
+bytesOfResult r = 20 * pairsIn r + 16 * (r .consumers + r .producers)
