@@ -1,0 +1,83 @@
+-- `event_text::calls::submission` meets its contract. Assumes nothing.
+use Prim.Native.Nat.{ℕ}
+use Rattle.service.specs.Group.{Submission as Submit}
+use Rattle.event_reader.specs.declared.Event.the-variants.{Submission}
+use Rattle.event_text.proofs.Replying.{no-call, replies-refusal, replies-submission}
+use borrow.Author.Needs.{needs}
+use Rattle.event_text.proofs.calls.submission.Statement.{statement}
+use Rattle.event_text.proofs.calls.submission.Tie as tie
+
+day-of-requires : tie.Need-day-of-requires
+day-of-requires c κs = search needs
+
+enum-known-day : tie.Need-enum-known-day
+enum-known-day c = search needs
+
+enum-told : tie.Need-enum-told
+enum-told c = search needs
+
+put-refusal-requires : tie.Need-put-refusal-requires
+put-refusal-requires c κs = search needs
+
+answered-requires : tie.Need-answered-requires
+answered-requires c κs = search needs
+
+same-length : tie.Need-same-length
+same-length c = search needs
+
+returns : tie.Need-returns
+returns c =
+    let put = c .before .before .before in
+    let told = put .before .before .before in
+    let day = told .before .before in
+    let a = day .before .before .before .args in
+    let none = no-call (a .date) (λ (day : ℕ). Submit (a .clock) (a .code) day (a .quarter) (a .value)) (day .day-of .ensures) (told .enum-told .given .1) in
+    replies-refusal _ _ (Submission (a .clock) (a .code) (a .date) (a .quarter) (a .value)) none (put .put-refusal .ensures) (c .answered .ensures)
+
+submit-value-requires : tie.Need-submit-value-requires
+submit-value-requires c κs = search needs
+
+answer-requires : tie.Need-answer-requires
+answer-requires c κs = search needs
+
+put-answer-requires : tie.Need-put-answer-requires
+put-answer-requires c κs = search needs
+
+answered-requires-2 : tie.Need-answered-requires-2
+answered-requires-2 c κs = search needs
+
+same-length-2 : tie.Need-same-length-2
+same-length-2 c = search needs
+
+same-length-3 : tie.Need-same-length-3
+same-length-3 c = search needs
+
+returns-2 : tie.Need-returns-2
+returns-2 c =
+    let put = c .before .before .before in
+    let made = put .before .before .before .before .before .before .before in
+    let is = made .before .before .before in
+    let day = is .before .before in
+    let start = day .before .before .before in
+    let a = start .args in
+    replies-submission _ _ (a .date) (day .day-of .ensures) (is .day .given .1) _ _ _ _ _ _ (start .fits .value) (made .submit-value .ensures)
+    (put .before .answer .ensures) (put .put-answer .ensures) (c .answered2 .ensures)
+
+pub submission-spec : {M : Type 1} → statement M
+submission-spec =
+    tie.close
+    (tie.spec
+    day-of-requires
+    enum-known-day
+    enum-told
+    put-refusal-requires
+    answered-requires
+    same-length
+    returns
+    submit-value-requires
+    answer-requires
+    put-answer-requires
+    answered-requires-2
+    same-length-2
+    same-length-3
+    returns-2)

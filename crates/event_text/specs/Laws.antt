@@ -1,0 +1,75 @@
+-- What joins the code's functions to the definition of `share`, and `share` to demand 3, as statements; `proofs/Laws.antt` proves each. Assumes nothing.
+use Prim.Native.Nat.{ℕ, _≤_}
+use mathlib.Core.Path.{_≡_}
+use mathlib.Core.List.{List, [], _∷_, _++_}
+use mathlib.Core.Option.{Option, none, some}
+use lib.ListN.{length, replicate, drop}
+use Rattle.answers.specs.declared.Verdict.the-variants.{Accepted}
+use Rattle.columns.specs.Line.{firstLine, afterLine}
+use Rattle.registration.specs.declared.Registration.{Registration}
+use Rattle.service.specs.declared.Service.{Service}
+use Rattle.service.specs.Group.{Call, Seen}
+use Rattle.service.specs.Demand3.{seenOf}
+use Rattle.event_reader.specs.declared.Event.{Event}
+use Rattle.event_reader.specs.Events.{eventIn}
+use Rattle.event_text.specs.Replies.{callOf, callText, refusalText, replyTo}
+use Rattle.event_text.specs.Share.{linesOf, eventsIn, registrationOf, answersTo, journalNumbers, openingVerdict, share}
+use Rattle.event_text.specs.Contracts.{openedOf, answerMost}
+
+-- ---- the program's loop
+
+-- the answers to a text are those of its first line, and then those of the text after it
+abbrev pub AnsweredByLines : Type 0
+AnsweredByLines =
+    (s : Service) (j : List ℕ) (byte : ℕ) (bytes : List ℕ)
+    → let text = byte ∷ bytes in
+    let reply = replyTo s j (firstLine text) in
+    answersTo s j (linesOf text) ≡ reply .bytes ++ answersTo (reply .service) (reply .journal) (linesOf (afterLine text))
+
+-- what is written for an accepted registration are the answers to the text from where its events begin
+abbrev pub SharedFromEvents : Type 0
+SharedFromEvents =
+    (input : List ℕ) → openingVerdict input ≡ Accepted
+    → share input ≡ answersTo (openedOf input .service) (replicate journalNumbers 0) (linesOf (drop (openedOf input .events) input))
+
+-- no answer is longer than a buffer that is not refused
+abbrev pub AnswersFit : Type 0
+AnswersFit = (s : Service) (j line : List ℕ) → length (replyTo s j line .bytes) ≤ answerMost
+
+-- ---- the calls of an input
+
+-- a call, if there is one, before others
+abbrev pub withCall : Option Call → List Call → List Call
+withCall none calls = calls
+withCall (some call) calls = call ∷ calls
+
+-- the calls that lines ask for, in turn
+unfoldable pub callsIn : List (List ℕ) → List Call
+callsIn [] = []
+callsIn (line ∷ lines) = withCall (callOf (eventIn line)) (callsIn lines)
+
+-- the answer to a line: from what is seen of the first of these calls, if it asks for one
+abbrev pub lineText : Registration → Event → Option Call → List Seen → List ℕ
+lineText r event none seen = refusalText event
+lineText r event (some call) [] = []
+lineText r event (some call) (a ∷ seen) = callText r call a
+
+-- what is seen of the calls after a line
+abbrev pub seenLater : Option Call → List Seen → List Seen
+seenLater none seen = seen
+seenLater (some call) [] = []
+seenLater (some call) (a ∷ seen) = seen
+
+-- the answers to lines, from what is seen of their calls
+unfoldable pub printed : Registration → List (List ℕ) → List Seen → List ℕ
+printed r [] seen = []
+printed r (line ∷ lines) seen =
+    lineText r (eventIn line) (callOf (eventIn line)) seen ++ printed r lines (seenLater (callOf (eventIn line)) seen)
+
+-- what the program writes is what demand 3 speaks of: the answers of its calls, made on a fresh service in turn
+abbrev pub PrintsItsCalls : Type 0
+PrintsItsCalls =
+    (input : List ℕ) → openingVerdict input ≡ Accepted
+    → let r = registrationOf input .registration in
+    let lines = eventsIn (linesOf input) in
+    share input ≡ printed r lines (seenOf r (replicate journalNumbers 0) (callsIn lines))

@@ -1,0 +1,4 @@
+pub mod Replies
+pub mod Share
+pub mod Contracts
+pub mod Laws

@@ -1,0 +1,121 @@
+// The calls that lines ask for: 9 for the date, then the call's own order, and the answer written to the front of a buffer.
+ghost use mathlib.Core.Path.{_≡_};
+ghost use mathlib.Core.List.{[], _∷_};
+ghost use Prim.Native.Nat.{_≤_};
+ghost use lib.ListN.{length};
+ghost use Rattle.answers.specs.declared.Verdict.the-variants.{Accepted as AcceptedCall};
+ghost use Rattle.answers.specs.Numbers.{numberOf};
+ghost use Rattle.lists.specs.Place.{Put};
+ghost use Rattle.event_reader.specs.declared.Event.the-variants.{Submission as SubmissionLine, Clear as ClearLine, Evaluation as EvaluationLine};
+ghost use Rattle.event_writer.specs.Answers.{lineA};
+ghost use Rattle.event_text.specs.Replies.{replyOf};
+ghost use Rattle.event_text.specs.Contracts.{Replies};
+use super::Answered;
+use answers::Refusal;
+use answers::Verdict;
+use calendar::Day;
+use service::Service;
+use service::State;
+
+// The most numbers that a result has: 5 for each of 63 consumers, and one for each of 64 points.
+const RESULT_MOST: usize = 379;
+
+// Puts the A line of a refusal to the front of a buffer.
+pub fn put_refusal(out: &mut [u8], refusal: Refusal) -> usize
+    requires { ⌜ 19 ≤ length (now out) ⌝ }
+    ensures { λ r. ⌜ Put 0 (lineA (numberOf refusal) 0) (now (out .entry)) (now (out .exit)) r ⌝ }
+{
+    event_writer::put_answer(out, 0, refusal.number(), 0)
+}
+
+// A line that was answered.
+pub fn answered(state: State, bytes: usize) -> Answered
+    ensures { λ r. ⌜ r ≡ record { verdict = AcceptedCall; state = state; bytes = bytes } ⌝ }
+{
+    Answered {
+        verdict: Verdict::Accepted,
+        state,
+        bytes,
+    }
+}
+
+// Answers a submission.
+pub fn submission(
+    service: Service,
+    journal: &mut [u64],
+    clock: u64,
+    code: u64,
+    date: u64,
+    quarter: u64,
+    value: i64,
+    out: &mut [u8],
+) -> Answered
+    requires { ⌜ 7332 ≤ length (now out) ⌝ }
+    ensures { λ r. ⌜ Replies AcceptedCall (replyOf service (now (journal .entry)) (SubmissionLine clock code date quarter value)) service (now (out .entry)) r (now (journal .exit)) (now (out .exit)) ⌝ }
+{
+    let Day::Is(day) = calendar::day_of(date) else {
+        let state = service.state;
+        let bytes = put_refusal(out, Refusal::NoSuchDay);
+        return answered(state, bytes);
+    };
+    let step = service.submit_value(journal, clock, code, day, quarter, value);
+    let state = step.state;
+    let submitted = step.submitted;
+    let verdict = submitted.verdict;
+    let bytes = event_writer::put_answer(out, 0, verdict.answer(), submitted.stamp);
+    answered(state, bytes)
+}
+
+// Answers a clear.
+pub fn clear(
+    service: Service,
+    journal: &mut [u64],
+    date: u64,
+    stamp: u64,
+    out: &mut [u8],
+) -> Answered
+    requires { ⌜ 7332 ≤ length (now out) ⌝ }
+    ensures { λ r. ⌜ Replies AcceptedCall (replyOf service (now (journal .entry)) (ClearLine date stamp)) service (now (out .entry)) r (now (journal .exit)) (now (out .exit)) ⌝ }
+{
+    let Day::Is(day) = calendar::day_of(date) else {
+        let state = service.state;
+        let bytes = put_refusal(out, Refusal::NoSuchDay);
+        return answered(state, bytes);
+    };
+    let step = service.clear_value(journal, day, stamp);
+    let state = step.state;
+    let cleared = step.cleared;
+    let verdict = cleared.verdict;
+    let bytes = event_writer::put_answer(out, 0, verdict.answer(), cleared.dropped as u64);
+    answered(state, bytes)
+}
+
+// Answers an evaluation, which alters neither record nor journal.
+pub fn evaluation(
+    service: Service,
+    journal: &[u64],
+    date: u64,
+    quarter: u64,
+    until: u64,
+    out: &mut [u8],
+) -> Answered
+    requires { ⌜ 7332 ≤ length (now out) ⌝ }
+    ensures { λ r. ⌜ Replies AcceptedCall (replyOf service (now (journal .entry)) (EvaluationLine date quarter until)) service (now (out .entry)) r (now (journal .entry)) (now (out .exit)) ⌝ }
+{
+    let state = service.state;
+    let Day::Is(day) = calendar::day_of(date) else {
+        let refusal = Refusal::NoSuchDay;
+        let bytes = event_writer::put_rounds(out, 0, refusal.number(), 0);
+        return answered(state, bytes);
+    };
+    let mut numbers = [0; RESULT_MOST];
+    let evaluated = service.evaluate(journal, day, quarter, until, &mut numbers);
+    let verdict = evaluated.verdict;
+    let at = event_writer::put_rounds(out, 0, verdict.answer(), evaluated.rounds as u64);
+    if let Verdict::Refused(refusal) = verdict {
+        return answered(state, at);
+    }
+    let registration = service.registration;
+    let bytes = event_writer::put_result(out, at, registration, &numbers);
+    answered(state, bytes)
+}
