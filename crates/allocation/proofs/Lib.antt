@@ -6,4 +6,3 @@ pub mod Producers
 pub mod ArrayRound
 pub mod Laws
 pub mod Rounded
-pub mod Cases

@@ -22,5 +22,4 @@ pub mod Looking
 pub mod Own
 pub mod Told
 pub mod Cores
-pub mod Cases
 pub mod Evaluating
