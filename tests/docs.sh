@@ -1,7 +1,8 @@
 #!/usr/bin/env bash
 # Every path, definition, contract, law and must-fail edit that the documents name is there.
 # A path is a word in backquotes that begins with crates/, docs/, tests/ or .ci/. A word in backquotes behind a path and a colon,
-# as in `crates/calendar/specs/Dates.antt`: `dayOf`, has to stand in that file.
+# as in `crates/calendar/specs/Dates.antt`: `dayOf`, has to stand in that file. The example of README.md is the input and the output
+# of a run in tests/share.
 set -u
 cd "$(dirname "$0")/.." || exit 1
 bad=0
@@ -23,6 +24,13 @@ for page in README.md docs/*.md; do
             fi
         done
     done < <(grep -oE '`crates/[^` ]*`: `[^`]*`(, `[^`]*`)*' "$page" | sed -E 's/^`([^`]*)`: /\1\t/; s/[`,]//g')
+done
+for example in tests/share/list.in tests/share/list.out; do
+    checked=$((checked + 1))
+    if [[ $(cat README.md) != *"$(sed 's/^/    /' "$example")"* ]]; then
+        echo "README.md does not show $example as it is"
+        bad=1
+    fi
 done
 echo "docs.sh: $checked references looked up"
 [ "$checked" -gt 0 ] && [ "$bad" -eq 0 ]
