@@ -1,4 +1,7 @@
 // Reads a registration and lines of events from standard input, and writes the answer to each line to standard output.
+ghost use mathlib.Core.Path.{_≡_};
+ghost use Rattle.answers.specs.declared.Verdict.the-variants.{Accepted as AcceptedInput};
+ghost use Rattle.event_text.specs.Contracts.{openedOf};
 use answers::Verdict;
 use event_text::Opened;
 use libc::STDIN_FILENO;
@@ -8,7 +11,9 @@ use libc::STDOUT_FILENO;
 const JOURNAL_NUMBERS: usize = 3000;
 
 // Answers the lines of an input one after the other, each by record and journal as the one before left them.
-fn answer_lines(input: &[u8], opened: Opened) {
+fn answer_lines(input: &[u8], opened: Opened)
+    requires { ⌜ (opened ≡ openedOf (now input)) × (opened .verdict ≡ AcceptedInput) ⌝ }
+{
     let mut journal = [0; JOURNAL_NUMBERS];
     let mut out = [0; event_text::ANSWER_MOST];
     let mut service = opened.service;

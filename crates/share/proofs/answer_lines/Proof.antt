@@ -1,21 +1,26 @@
--- `share::answer_lines` is safe and ends: each line ends after the place where it begins. Assumes nothing of its own.
+-- `share::answer_lines` is safe and ends, since each line ends after the place where it begins. Between two turns the bytes handed to standard output and
+-- the answers still to come are what `share` writes for the input: `Written` in the loop's invariant. Assumes nothing of its own.
 use Prim.Native.Nat.{ℕ, _-_}
 use mathlib.Core.Path.{_≡_, sym}
 use native.Mathlib.Omega.{arith}
 use borrow.Author.Needs.{needs}
 use lib.ListN.{length, length-replicate}
 use lib.Seq.{length-take-le}
+use Rattle.share.specs.Written.{Written}
+use Rattle.share.proofs.Turns.{nothing-written, one-more}
 use Rattle.share.proofs.answer_lines.Statement.{statement}
 use Rattle.share.proofs.answer_lines.Tie as tie
 
 abbrev Inv-loop : tie.InvT-loop
-Inv-loop input journal₀ out₀ service₀ at₀ journal out service at = (length journal ≡ 3000) × (length out ≡ 7332)
+Inv-loop input journal₀ out₀ service₀ at₀ journal out service at = (length journal ≡ 3000) × (length out ≡ 7332) × Written input service journal at
 
 abbrev μ-loop : tie.MeasureT-loop
 μ-loop input journal₀ out₀ service₀ at₀ journal out service at = length input - at
 
 loop-holds : tie.Need-loop-holds Inv-loop μ-loop
-loop-holds c = (length-replicate {A = ℕ} 3000 0, length-replicate {A = ℕ} 7332 0)
+loop-holds c =
+    let start = c .before .before in
+    (length-replicate {A = ℕ} 3000 0, length-replicate {A = ℕ} 7332 0, nothing-written _ _ (start .pre .0) (start .pre .1))
 
 line-end-requires : tie.Need-line-end-requires Inv-loop μ-loop
 line-end-requires c κs = search needs
@@ -56,7 +61,12 @@ loop-less c =
     omega (arith, line .line-end .ensures .1 .1 (line .before .loop-test .taken))
 
 loop-again : tie.Need-loop-again Inv-loop μ-loop
-loop-again c = search needs
+loop-again c =
+    let said = c .before .before .before .before .before .before in
+    let line = said .before .before .before .before in
+    let turn = line .before in
+    let inv = turn .before .loop .inv in
+    (search needs, search needs, one-more _ _ _ _ (inv .2) (turn .loop-test .taken) _ (line .line-end .ensures .0) _ (omega (arith, inv .1)) _ _ _ (said .answer .ensures .0))
 
 returns-2 : tie.Need-returns-2 Inv-loop μ-loop
 returns-2 c = search needs
