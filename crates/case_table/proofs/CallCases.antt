@@ -41,13 +41,7 @@ use Rattle.service.specs.Record.{callOn, freshService, zeroService}
 use Rattle.service.specs.Lists.{run}
 use Rattle.service.specs.Demand3.{Kept, seenOf}
 use Rattle.service.specs.Laws.{lentBy}
-
--- equal lists
-unfoldable same : List ℕ → List ℕ → Bool
-same [] [] = true
-same [] (m ∷ ms) = false
-same (n ∷ ns) [] = false
-same (n ∷ ns) (m ∷ ms) = eqb n m && same ns ms
+use Rattle.case_table.proofs.Same.{same}
 
 -- the codes of the producer and of the two consumers of case LIST, and a code that is not in its group
 abbrev producer : ℕ

@@ -3,7 +3,7 @@
 use Prim.Native.Nat.{ℕ, zero, suc, _+_, _-_, _*_, _%_}
 use Prim.Native.String.{String}
 use mathlib.Core.Path.{_≡_, refl}
-use mathlib.Core.Bool.{Bool, true, false, not, _&&_}
+use mathlib.Core.Bool.{Bool, true, not, _&&_}
 use mathlib.Core.List.{List, [], _∷_, _++_, map}
 use lib.ListN.{length, getD, replicate}
 use lib.Dec.{eqb}
@@ -16,13 +16,7 @@ use Rattle.registration.specs.Damage.{isDamaged}
 use Rattle.allocation.specs.Rounds.{withdrawalAt, roundsOf, leftAt, offerIn, shareIn, roundOf, afterRounds, received, ofConsumer, ofProducer}
 use Rattle.allocation.specs.Result.{startOf, pairsOf, roundsFor}
 use Rattle.allocation.specs.Mean.{sumOf, nearest, meanOf}
-
--- equal lists
-unfoldable same : List ℕ → List ℕ → Bool
-same [] [] = true
-same [] (m ∷ ms) = false
-same (n ∷ ns) [] = false
-same (n ∷ ns) (m ∷ ms) = eqb n m && same ns ms
+use Rattle.case_table.proofs.Same.{same}
 
 -- a producer that a consumer names, by its number, and the key
 record Named : Type 0 where

@@ -1,3 +1,4 @@
+pub mod Same
 pub mod Cases
 pub mod CallCases
 pub mod ExampleCases
