@@ -44,5 +44,15 @@ run "32769 bytes are too many" "$folder/in" "$folder/refused"
 filled 100000 >"$folder/in"
 run "100000 bytes are too many" "$folder/in" "$folder/refused"
 
+# The command of README.md, on a file and on standard input.
+for way in "bash share.sh tests/share/list.in" "bash share.sh"; do
+    if $way <tests/share/list.in >"$folder/out" && cmp -s "$folder/out" tests/share/list.out; then
+        passed=$((passed + 1))
+    else
+        failed=$((failed + 1))
+        echo "share.sh: '$way' does not give what README.md shows"
+    fi
+done
+
 echo "share.sh: $passed runs as expected, $failed not"
 [ "$passed" -gt 0 ] && [ "$failed" -eq 0 ]
