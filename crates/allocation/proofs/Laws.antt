@@ -11,7 +11,7 @@ use Rattle.lists.specs.Below.{sumBelow}
 use Rattle.registration.specs.Rules.{points, countAt}
 use Rattle.registration.proofs.Damage.{undamaged-parts}
 use Rattle.allocation.specs.Rounds.{Remaining, shareIn, roundOf, afterRounds, received}
-use Rattle.allocation.specs.Result.{Allocation, startOf, pairsOf, roundsFor, allocationOf}
+use Rattle.allocation.specs.Result.{startOf, pairsOf, pairsIn, roundsFor, allocationOf}
 use Rattle.allocation.specs.Laws.{UndamagedIsShareable, RoundWithinSupply, SupplyAddsUp, WithdrawalAddsUp, WithinWithdrawal}
 use Rattle.allocation.specs.Laws.{AllocationKeepsSupplies, AllocationKeepsWithdrawals, OneRoundWithinKey, ResultSize, MeanIsNearest}
 use Rattle.lists.proofs.Sums.{sum-add}
@@ -73,11 +73,17 @@ unfolding roundOf afterRounds
 remaining-lengths r magnitude zero = (length-table _ (r .consumers), length-table _ (r .producers))
 remaining-lengths r magnitude (suc rounds) = (length-table _ (r .consumers), length-table _ (r .producers))
 
-pub result-size : ResultSize
+-- so many numbers does a result have of each sort
+pub result-lengths : (r : Registration) (magnitude : ℕ → ℕ)
+    → (length (allocationOf r magnitude .shares) ≡ pairsIn r) × (length (allocationOf r magnitude .withdrawals) ≡ r .consumers)
+    × (length (allocationOf r magnitude .supplies) ≡ r .producers)
 unfolding allocationOf
-result-size r magnitude =
-    let pairs = pairs-length r (received r (startOf r magnitude) (roundsFor r)) in
-    rw (length-append, length-append) (omega (arith, pairs, remaining-lengths r magnitude (roundsFor r)))
+result-lengths r magnitude =
+    let remaining = remaining-lengths r magnitude (roundsFor r) in
+    (pairs-length r (received r (startOf r magnitude) (roundsFor r)), remaining .0, remaining .1)
+
+pub result-size : ResultSize
+result-size r magnitude = rw (length-append, length-append) (omega (arith, result-lengths r magnitude))
 
 pub mean-is-nearest : MeanIsNearest
 mean-is-nearest sum count h =

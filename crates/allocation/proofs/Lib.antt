@@ -5,4 +5,5 @@ pub mod Consumers
 pub mod Producers
 pub mod ArrayRound
 pub mod Laws
+pub mod ResultBounds
 pub mod Rounded

@@ -8,3 +8,4 @@ pub mod Substituted
 pub mod Evaluated
 pub mod Earlier
 pub mod Alike
+pub mod Greatest

@@ -2,7 +2,7 @@
 use Prim.Native.Nat.{ℕ, zero, suc, _+_, _-_, _*_, _≤_, _<_}
 use mathlib.Core.Path.{_≡_, refl, ap}
 use mathlib.Core.List.{List, [], _∷_, map}
-use mathlib.Core.Option.{Option}
+use mathlib.Core.Option.{Option, none, some}
 use native.Mathlib.Nat.{mul-le-mul}
 use native.Mathlib.Omega.{arith}
 use lib.Dec.{leb}
@@ -13,7 +13,7 @@ use Rattle.journal.specs.Value.{Value}
 use Rattle.allocation.specs.Mean.{sumOf, nearest, meanOf}
 use Rattle.allocation.proofs.Laws.{mean-is-nearest}
 use Rattle.evaluation.specs.Substitutes.{existing, fourWeeks}
-use Rattle.evaluation.specs.Working.{valueFor, numberAt, weekOf, weeksOf, Within}
+use Rattle.evaluation.specs.Working.{valueFor, numberAt, weekOf, weeksOf}
 
 -- a number 0 has no value
 values-skip : (number : ℕ) (values : List (Option Value)) → number ≡ 0 → existing (valueFor number ∷ values) ≡ existing values
@@ -114,6 +114,16 @@ nearest-within sum (suc n) h =
     let product : count * 100000000 ≤ count * nearest sum count = mul-le-mul (omega arith) over in
     absurd (omega (arith, mean-is-nearest sum count (omega arith))))
 
+-- a value that need not exist is at most the greatest magnitude
+abbrev pub Small : Option Value → Type 0
+Small none = Unit {0}
+Small (some value) = value .magnitude ≤ 99999999
+
+-- so is the value that a number of the table stands for
+pub small-for : (number : ℕ) → number ≤ 100000000 → Small (valueFor number)
+small-for zero h = tt
+small-for (suc n) h = omega arith
+
 -- the sum of the values is at most the greatest magnitude for each
 abbrev SumWithin : List (Option Value) → Type 0
 SumWithin values = sumOf (existing values) ≤ 99999999 * length (existing values)
@@ -122,16 +132,16 @@ within-none : SumWithin []
 unfolding existing sumOf
 within-none = omega arith
 
-within-cons : (number : ℕ) (values : List (Option Value)) → number ≤ 100000000 → SumWithin values → SumWithin (valueFor number ∷ values)
+within-cons : (value : Option Value) (values : List (Option Value)) → Small value → SumWithin values → SumWithin (value ∷ values)
 unfolding existing sumOf
-within-cons zero values h s = s
-within-cons (suc n) values h s = omega (arith, s)
+within-cons none values h s = s
+within-cons (some value) values h s = omega (arith, s)
 
 -- so the mean of the earlier weeks is within
-pub mean-within : (table : List ℕ) (point : ℕ) → Within table → point < 64 → meanOf (existing (weeksOf table point)) ≤ 99999999
-mean-within table point within h =
+pub mean-within : (week : ℕ → Option Value) → ((n : ℕ) → n < 5 → Small (week n)) → meanOf (existing (map week fourWeeks)) ≤ 99999999
+mean-within week small =
     nearest-within _ _
-    (within-cons _ _ (within point 1 h (omega arith))
-    (within-cons _ _ (within point 2 h (omega arith))
-    (within-cons _ _ (within point 3 h (omega arith))
-    (within-cons _ _ (within point 4 h (omega arith)) within-none))))
+    (within-cons (week 1) _ (small 1 (omega arith))
+    (within-cons (week 2) _ (small 2 (omega arith))
+    (within-cons (week 3) _ (small 3 (omega arith))
+    (within-cons (week 4) _ (small 4 (omega arith)) within-none))))

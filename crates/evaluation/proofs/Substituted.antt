@@ -1,8 +1,8 @@
 -- The magnitude of a point from the working table: by what the code finds there, and never above the greatest of a reading. Assumes nothing.
 use Prim.Native.Nat.{ℕ, zero, suc, _+_, _-_, _*_, _≤_, _<_}
 use mathlib.Core.Path.{_≡_, sym, _∙_}
-use mathlib.Core.List.{List}
-use mathlib.Core.Option.{Option}
+use mathlib.Core.List.{List, map}
+use mathlib.Core.Option.{Option, none, some}
 use native.Mathlib.Nat.{add-zero, not-suc-le-zero}
 use native.Mathlib.Omega.{arith}
 use lib.Dec.{eqb}
@@ -13,9 +13,9 @@ use Rattle.lists.proofs.Cases.{by-test}
 use Rattle.lists.proofs.Below.{below}
 use Rattle.journal.specs.Value.{Value}
 use Rattle.allocation.specs.Mean.{meanOf}
-use Rattle.evaluation.specs.Substitutes.{existing, substitute, magnitudeFrom}
-use Rattle.evaluation.specs.Working.{valueFor, weeksOf, magnitudeIn, Within, AllOf}
-use Rattle.evaluation.proofs.Means.{mean-within}
+use Rattle.evaluation.specs.Substitutes.{existing, substitute, magnitudeFrom, fourWeeks}
+use Rattle.evaluation.specs.Working.{valueFor, numberAt, weekOf, weeksOf, magnitudeIn, Within, AllOf}
+use Rattle.evaluation.proofs.Means.{Small, small-for, mean-within}
 
 -- what the number of the quarter hour itself gives
 from-number : (number status : ℕ) (weeks : List (Option Value)) → 0 < number → magnitudeFrom status (valueFor number) weeks ≡ number - 1
@@ -44,16 +44,17 @@ module _ (table : List ℕ) (point status : ℕ) where
     pub magnitude-mean : status ≡ 0 → meanOf (existing (weeksOf table point)) ≡ magnitudeIn table point status
     magnitude-mean z = sym (substituted ∙ rw (eq-eqb status 0 z))
 
--- a value's magnitude and a substitute are within, where the mean is
-from-within : (number status : ℕ) (weeks : List (Option Value)) → number ≤ 100000000 → meanOf (existing weeks) ≤ 99999999
-    → magnitudeFrom status (valueFor number) weeks ≤ 99999999
-from-within zero status weeks h m = by-test (eqb status 0) (λ t. rw t m) (λ f. rw f (omega arith))
-from-within (suc n) status weeks h m = omega arith
+-- a value's magnitude and a substitute are within, where the values are
+pub from-within : (status : ℕ) (value : Option Value) (week : ℕ → Option Value) → Small value → ((n : ℕ) → n < 5 → Small (week n))
+    → magnitudeFrom status value (map week fourWeeks) ≤ 99999999
+from-within status none week h small = by-test (eqb status 0) (λ t. rw t (mean-within week small)) (λ f. rw f (omega arith))
+from-within status (some value) week h small = h
 
 -- so the magnitude of a point is within
 pub magnitude-within : (table : List ℕ) (point status : ℕ) → Within table → point < 64 → magnitudeIn table point status ≤ 99999999
 magnitude-within table point status within h =
-    from-within _ status (weeksOf table point) (within point 0 h (omega arith)) (mean-within table point within h)
+    let small : (week : ℕ) → week < 5 → Small (weekOf table point week) = λ week l. small-for (numberAt table point week) (within point week h l) in
+    from-within status (weekOf table point 0) (weekOf table point) (small 0 (omega arith)) small
 
 -- the magnitudes of no point
 pub all-none : (table statuses all : List ℕ) → length all ≡ 64 → AllOf table statuses 0 all

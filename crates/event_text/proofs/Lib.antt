@@ -6,4 +6,5 @@ pub mod Fitting
 pub mod Replying
 pub mod Answering
 pub mod Printing
+pub mod InColumns
 pub mod Laws

@@ -1,17 +1,25 @@
 -- What joins the code's functions to the definition of `share`, and `share` to demand 3, as statements; `proofs/Laws.antt` proves each. Assumes nothing.
-use Prim.Native.Nat.{ℕ, _≤_}
+use Prim.Native.Nat.{ℕ, _+_, _≤_, _<_}
 use mathlib.Core.Path.{_≡_}
+use mathlib.Core.Bool.{true}
 use mathlib.Core.List.{List, [], _∷_, _++_}
 use mathlib.Core.Option.{Option, none, some}
-use lib.ListN.{length, replicate, drop}
+use lib.ListN.{length, getD, replicate, drop}
 use Rattle.answers.specs.declared.Verdict.the-variants.{Accepted}
+use Rattle.answers.specs.Numbers.{answerOf}
+use Rattle.lists.specs.Below.{sumBelow}
+use Rattle.columns.specs.Fields.{fitting}
 use Rattle.columns.specs.Line.{firstLine, afterLine}
 use Rattle.registration.specs.declared.Registration.{Registration}
+use Rattle.registration.specs.Rules.{countAt, sourceAt}
+use Rattle.allocation.specs.Result.{pairsIn}
 use Rattle.service.specs.declared.Service.{Service}
-use Rattle.service.specs.Group.{Call, Seen}
+use Rattle.service.specs.Group.{Call, Submission, Clear, Evaluation, Seen}
+use Rattle.service.specs.Record.{callOn}
 use Rattle.service.specs.Demand3.{seenOf}
 use Rattle.event_reader.specs.declared.Event.{Event}
 use Rattle.event_reader.specs.Events.{eventIn}
+use Rattle.event_writer.specs.Answers.{widthsA, widthsR, widthsS, widthsOfRemaining}
 use Rattle.event_text.specs.Replies.{callOf, callText, refusalText, replyTo}
 use Rattle.event_text.specs.Share.{linesOf, eventsIn, registrationOf, answersTo, journalNumbers, openingVerdict, share}
 use Rattle.event_text.specs.Contracts.{openedOf, answerMost}
@@ -73,3 +81,25 @@ PrintsItsCalls =
     → let r = registrationOf input .registration in
     let lines = eventsIn (linesOf input) in
     share input ≡ printed r lines (seenOf r (replicate journalNumbers 0) (callsIn lines))
+
+-- ---- the columns of the answers
+
+-- each number of a result fits its column
+pub record ResultFits (r : Registration) (numbers : List ℕ) : Type 0 where
+  pub shares : (consumer priority : ℕ) → consumer < r .consumers → priority < countAt r consumer
+      → fitting widthsS ((consumer + 1) ∷ sourceAt r consumer priority ∷ getD numbers (sumBelow (countAt r) consumer + priority) 0 ∷ []) ≡ true
+  pub withdrawals : (consumer : ℕ) → consumer < r .consumers
+      → fitting widthsOfRemaining ((consumer + 1) ∷ getD numbers (pairsIn r + consumer) 0 ∷ []) ≡ true
+  pub supplies : (producer : ℕ) → producer < r .producers
+      → fitting widthsOfRemaining ((producer + 1) ∷ getD numbers (pairsIn r + r .consumers + producer) 0 ∷ []) ≡ true
+
+-- each number of the answer to a call fits its column
+abbrev pub CallFits : Registration → Call → Seen → Type 0
+CallFits r (Submission clock code day quarter value) seen = fitting widthsA (answerOf (seen .verdict) ∷ seen .number ∷ []) ≡ true
+CallFits r (Clear day stamp) seen = fitting widthsA (answerOf (seen .verdict) ∷ seen .number ∷ []) ≡ true
+CallFits r (Evaluation day quarter T lent) seen =
+    (fitting widthsR (answerOf (seen .verdict) ∷ seen .number ∷ []) ≡ true) × (seen .verdict ≡ Accepted → ResultFits r (seen .result))
+
+-- no number of an answer is too large for its column, whatever the record, the journal of the program's size and the call
+abbrev pub NumbersFit : Type 0
+NumbersFit = (s : Service) (j : List ℕ) (call : Call) → length j ≡ journalNumbers → CallFits (s .registration) call (callOn s j call .seen)

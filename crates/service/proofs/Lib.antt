@@ -23,3 +23,4 @@ pub mod Own
 pub mod Told
 pub mod Cores
 pub mod Evaluating
+pub mod Returned

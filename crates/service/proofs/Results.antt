@@ -7,9 +7,8 @@ use lib.ListN.{length, drop, length-append}
 use lib.Seq.{take-at, drop-at}
 use Rattle.lists.specs.Place.{placed}
 use Rattle.registration.specs.declared.Registration.{Registration}
-use Rattle.allocation.specs.Result.{Allocation, pairsIn, numbersOf, startOf, allocationOf, roundsFor}
-use Rattle.allocation.specs.Rounds.{received}
-use Rattle.allocation.proofs.Laws.{pairs-length, remaining-lengths}
+use Rattle.allocation.specs.Result.{Allocation, pairsIn, numbersOf}
+use Rattle.allocation.proofs.Laws.{result-lengths}
 use Rattle.registration.specs.Rules.{codeAt, statusAt}
 use Rattle.evaluation.specs.Substitutes.{magnitudeOf}
 use Rattle.evaluation.specs.Evaluation.{evaluationOf}
@@ -47,12 +46,11 @@ pub record Lengths (r : Registration) (result : Allocation) : Type 0 where
 
 -- the book's result has one for each pair, each consumer and each producer of its registration
 pub book-lengths : (book : Book) (day quarter T : ℕ) → Lengths (book .page .registration) (bookResult book day quarter T)
-unfolding bookResult evaluationOf allocationOf
+unfolding bookResult evaluationOf
 book-lengths book day quarter T =
     let r = book .page .registration in
-    let magnitude : ℕ → ℕ = λ point. magnitudeOf (statusAt r point) (noted (book .page) (codeAt r point)) day quarter T in
-    let remaining = remaining-lengths r magnitude (roundsFor r) in
-    record { shares = pairs-length r (received r (startOf r magnitude) (roundsFor r)); withdrawals = remaining .0; supplies = remaining .1 }
+    let lengths = result-lengths r (λ point. magnitudeOf (statusAt r point) (noted (book .page) (codeAt r point)) day quarter T) in
+    record { shares = lengths .0; withdrawals = lengths .1; supplies = lengths .2 }
 
 -- two lists that hold the same numbers from a place on
 part-same : {at at′ count count′ : ℕ} (xs ys : List ℕ) {zs : List ℕ} → at ≡ at′ → count ≡ count′ → part at count xs ≡ zs → part at count ys ≡ zs

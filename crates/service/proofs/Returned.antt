@@ -1,0 +1,114 @@
+-- How great the numbers that a call returns are, whatever record and journal hold. Assumes nothing.
+use Prim.Native.Nat.{ℕ, _*_, _≤_}
+use native.Mathlib.Omega.{arith}
+use mathlib.Core.Path.{_≡_, refl}
+use mathlib.Core.List.{List, []}
+use mathlib.Core.Option.{Option, none, some}
+use lib.IntN.{ℤ}
+use lib.ListN.{length}
+use Rattle.answers.specs.declared.Verdict.{Verdict}
+use Rattle.answers.specs.declared.Verdict.the-variants.{Accepted, Refused}
+use Rattle.answers.proofs.Refusals.{passed}
+use Rattle.lists.proofs.Cases.{by-test}
+use Rattle.registration.specs.declared.Registration.{Registration}
+use Rattle.journal.specs.Order.{Reading}
+use Rattle.journal.specs.Readings.{shown, stampOf}
+use Rattle.journal.specs.Laws.{ShowsNewest}
+use Rattle.journal.proofs.Laws.{shown-is-newest}
+use Rattle.allocation.proofs.Laws.{undamaged-is-shareable}
+use Rattle.allocation.proofs.ResultBounds.{ResultWithin}
+use Rattle.evaluation.proofs.Greatest.{readings-small, evaluation-within, rounds-few}
+use Rattle.service.specs.declared.Service.{Service}
+use Rattle.service.specs.Group.{Group, Submission, Clear, Evaluation, After, rollOf, placeFor, readingsOf}
+use Rattle.service.specs.Refusals.{stampMost, repeats, submissionVerdict, clearVerdict, evaluationVerdict}
+use Rattle.service.specs.Calls.{submitted, cleared, evaluated, unless, step}
+use Rattle.service.specs.Record.{groupIn, callOn}
+use Rattle.service.proofs.Sound.{undamaged-sound}
+use Rattle.service.proofs.Submissions.{admitted}
+use Rattle.service.proofs.ReadAgain.{through}
+use Rattle.service.proofs.Looking.{never-accepted}
+
+-- what is shown as of T has a stamp of at most T
+stamp-shown : (T : ℕ) (rs : List Reading) (o : Option Reading) → ShowsNewest T rs o → stampOf o ≤ T
+stamp-shown T rs none k = omega arith
+stamp-shown T rs (some m) k = k .in-time
+
+-- a refused call returns 0, an accepted one what its own law says
+module _ (last : ℕ) (G : Group) (lent : List ℕ) (after : After) where
+  number-unless : (P : ℕ → Type 0) (verdict : Verdict) → P 0 → (verdict ≡ Accepted → P (after .seen .number))
+      → P (unless verdict last G lent after .seen .number)
+  number-unless P Accepted h k = k refl
+  number-unless P (Refused refusal) h k = h
+
+  result-unless : (verdict : Verdict) (r : Registration) → (verdict ≡ Accepted → ResultWithin r (after .seen .result))
+      → unless verdict last G lent after .seen .verdict ≡ Accepted → ResultWithin r (unless verdict last G lent after .seen .result)
+  result-unless Accepted r h e = h refl
+  result-unless (Refused refusal) r h e = never-accepted refusal e
+
+-- the stamp of an accepted submission
+submitted-number : (last : ℕ) (G : Group) (clock code day quarter : ℕ) (value : ℤ) → submissionVerdict last G clock code day quarter value ≡ Accepted
+    → submitted last G clock code day quarter value .seen .number ≤ stampMost
+unfolding submitted submissionVerdict
+submitted-number last G clock code day quarter value e =
+    let s = undamaged-sound last G (passed _ _ _ e .0) in
+    let a = admitted last G clock code day quarter value e in
+    let rs = readingsOf G code day quarter in
+    by-test (repeats last G code day quarter value)
+    (λ t. rw t (omega (arith, s .last-stamp, stamp-shown last rs (shown last rs) (shown-is-newest last rs))))
+    (λ t. rw t (omega (arith, s .last-stamp, a .clock-small, a .last-less)))
+
+-- the dropped count of an accepted clear
+cleared-number : (last : ℕ) (G : Group) (day stamp : ℕ) → clearVerdict last G day stamp ≡ Accepted → 3 * cleared last G day stamp .seen .number ≤ G .room
+unfolding cleared clearVerdict
+cleared-number last G day stamp e = omega (arith, undamaged-sound last G (passed _ _ _ e .0) .fits)
+
+-- the result of an accepted evaluation
+evaluated-result : (last : ℕ) (G : Group) (day quarter T : ℕ) (lent : List ℕ) → evaluationVerdict last G day quarter T lent ≡ Accepted
+    → ResultWithin (G .registration) (evaluated last G day quarter T lent .seen .result)
+unfolding evaluated evaluationVerdict
+evaluated-result last G day quarter T lent e =
+    let s = undamaged-sound last G (passed _ _ _ e .0) in
+    evaluation-within (G .registration) (readingsOf G) day quarter T (undamaged-is-shareable (G .registration) (s .registered))
+    (λ code day quarter. readings-small (length (rollOf G)) (G .keptday) last 0 (placeFor G code day quarter) (G .entries) (s .right)) lent
+
+module _ (s : Service) (j : List ℕ) where
+  abbrev last : ℕ
+  last = s .state .last
+
+  abbrev G : Group
+  G = groupIn s j
+
+  -- a submission returns no stamp above the greatest
+  pub stamp-returned : (clock code day quarter : ℕ) (value : ℤ) → callOn s j (Submission clock code day quarter value) .seen .number ≤ stampMost
+  unfolding step
+  stamp-returned clock code day quarter value =
+      rw (through s j (Submission clock code day quarter value) .seen)
+      (number-unless last G [] (submitted last G clock code day quarter value) (λ n. n ≤ stampMost)
+      (submissionVerdict last G clock code day quarter value) (omega arith) (submitted-number last G clock code day quarter value))
+
+  -- a clear drops no more entries than the journal has room for
+  pub dropped-returned : (day stamp : ℕ) → 3 * callOn s j (Clear day stamp) .seen .number ≤ length j
+  unfolding step
+  dropped-returned day stamp =
+      rw (through s j (Clear day stamp) .seen)
+      (number-unless last G [] (cleared last G day stamp) (λ n. 3 * n ≤ length j) (clearVerdict last G day stamp) (omega arith)
+      (cleared-number last G day stamp))
+
+  module _ (day quarter T : ℕ) (lent : List ℕ) where
+    -- an evaluation has at most five rounds
+    pub rounds-returned : callOn s j (Evaluation day quarter T lent) .seen .number ≤ 5
+    unfolding step evaluated
+    rounds-returned =
+        rw (through s j (Evaluation day quarter T lent) .seen)
+        (number-unless last G lent (evaluated last G day quarter T lent) (λ n. n ≤ 5) (evaluationVerdict last G day quarter T lent) (omega arith)
+        (λ e. rounds-few (s .registration) (readingsOf G) day quarter T))
+
+    -- and an accepted one gives no number above the greatest magnitude
+    pub result-returned : callOn s j (Evaluation day quarter T lent) .seen .verdict ≡ Accepted
+        → ResultWithin (s .registration) (callOn s j (Evaluation day quarter T lent) .seen .result)
+    unfolding step
+    result-returned e =
+        let seen = through s j (Evaluation day quarter T lent) .seen in
+        rw seen
+        (result-unless last G lent (evaluated last G day quarter T lent) (evaluationVerdict last G day quarter T lent) (s .registration)
+        (evaluated-result last G day quarter T lent) (rw seen at e))
