@@ -78,6 +78,11 @@ call-on date call e f = rw (sym e ∙ f)
 abbrev pub answeredBy : State → ℕ → Answered
 answeredBy state n = record { verdict = Accepted; state = state; bytes = n }
 
+-- a refusal that was put, with as many bytes as the answer says
+pub refusal-written : {text buffer buffer′ : List ℕ} {n : ℕ} {state : State} {answered : Answered} → Put 0 text buffer buffer′ n → answered ≡ answeredBy state n
+    → Put 0 text buffer buffer′ (answered .bytes) × (answered ≡ answeredBy state (answered .bytes))
+refusal-written p e = rw e (p, refl)
+
 module _ (s : Service) (j : List ℕ) (event : Event) {n : ℕ} {buffer buffer′ : List ℕ} {answered : Answered} where
   -- a line that asks for no call
   pub replies-refusal : callOf event ≡ none → Put 0 (refusalText event) buffer buffer′ n → answered ≡ answeredBy (s .state) n

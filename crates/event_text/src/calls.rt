@@ -39,6 +39,15 @@ pub fn answered(state: State, bytes: usize) -> Answered
     }
 }
 
+// A line that asks for no call: its refusal is written, and nothing is altered.
+pub fn no_call(state: State, out: &mut [u8], refusal: Refusal) -> Answered
+    requires { ⌜ 19 ≤ length (now out) ⌝ }
+    ensures { λ r. ⌜ Put 0 (lineA (numberOf refusal) 0) (now (out .entry)) (now (out .exit)) (r .bytes) × (r ≡ record { verdict = AcceptedCall; state = state; bytes = r .bytes }) ⌝ }
+{
+    let bytes = put_refusal(out, refusal);
+    answered(state, bytes)
+}
+
 // Answers a submission.
 pub fn submission(
     service: Service,
@@ -54,9 +63,7 @@ pub fn submission(
     ensures { λ r. ⌜ Replies AcceptedCall (replyOf service (now (journal .entry)) (SubmissionLine clock code date quarter value)) service (now (out .entry)) r (now (journal .exit)) (now (out .exit)) ⌝ }
 {
     let Day::Is(day) = calendar::day_of(date) else {
-        let state = service.state;
-        let bytes = put_refusal(out, Refusal::NoSuchDay);
-        return answered(state, bytes);
+        return no_call(service.state, out, Refusal::NoSuchDay);
     };
     let step = service.submit_value(journal, clock, code, day, quarter, value);
     let state = step.state;
@@ -78,9 +85,7 @@ pub fn clear(
     ensures { λ r. ⌜ Replies AcceptedCall (replyOf service (now (journal .entry)) (ClearLine date stamp)) service (now (out .entry)) r (now (journal .exit)) (now (out .exit)) ⌝ }
 {
     let Day::Is(day) = calendar::day_of(date) else {
-        let state = service.state;
-        let bytes = put_refusal(out, Refusal::NoSuchDay);
-        return answered(state, bytes);
+        return no_call(service.state, out, Refusal::NoSuchDay);
     };
     let step = service.clear_value(journal, day, stamp);
     let state = step.state;

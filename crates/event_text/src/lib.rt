@@ -143,10 +143,6 @@ pub fn answer(service: Service, journal: &mut [u64], line: &[u8], out: &mut [u8]
             quarter,
             until,
         } => calls::evaluation(service, journal, date, quarter, until, out),
-        Event::Malformed => {
-            let state = service.state;
-            let bytes = calls::put_refusal(out, Refusal::NotInColumns);
-            calls::answered(state, bytes)
-        }
+        Event::Malformed => calls::no_call(service.state, out, Refusal::NotInColumns),
     }
 }

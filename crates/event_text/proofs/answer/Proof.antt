@@ -37,11 +37,8 @@ evaluation-requires c κs = search needs
 enum-told : tie.Need-enum-told
 enum-told c = search needs
 
-put-refusal-requires : tie.Need-put-refusal-requires
-put-refusal-requires c κs = search needs
-
-answered-requires : tie.Need-answered-requires
-answered-requires c κs = search needs
+no-call-requires : tie.Need-no-call-requires
+no-call-requires c κs = search needs
 
 same-length : tie.Need-same-length
 same-length c = search needs
@@ -86,11 +83,11 @@ same-length-7 c = search needs
 
 returns-5 : tie.Need-returns-5
 returns-5 c =
-    let refused = c .before .before .before in
-    let told = refused .before .before .before in
+    let refused = c .before .before in
+    let told = refused .before .before in
     let read = told .before .before in
     by-event _ _ _ _ (omega (arith, read .before .if1 .left)) _ _ _ Malformed (sym (told .enum-told .given .1) ∙ read .read .ensures)
-    (replies-refusal _ _ Malformed refl (refused .put-refusal .ensures) (c .answered .ensures))
+    (replies-refusal _ _ Malformed refl (refused .no-call .ensures .0) (refused .no-call .ensures .1))
 
 pub answer-spec : {M : Type 1} → statement M
 answer-spec =
@@ -105,8 +102,7 @@ answer-spec =
     enum-known-date-2
     evaluation-requires
     enum-told
-    put-refusal-requires
-    answered-requires
+    no-call-requires
     same-length
     same-length-2
     returns-2

@@ -16,23 +16,20 @@ enum-known-day c = search needs
 enum-told : tie.Need-enum-told
 enum-told c = search needs
 
-put-refusal-requires : tie.Need-put-refusal-requires
-put-refusal-requires c κs = search needs
-
-answered-requires : tie.Need-answered-requires
-answered-requires c κs = search needs
+no-call-requires : tie.Need-no-call-requires
+no-call-requires c κs = search needs
 
 same-length : tie.Need-same-length
 same-length c = search needs
 
 returns : tie.Need-returns
 returns c =
-    let put = c .before .before .before in
-    let told = put .before .before .before in
+    let put = c .before .before in
+    let told = put .before .before in
     let day = told .before .before in
     let a = day .before .before .before .args in
     let none = no-call (a .date) (λ (day : ℕ). ClearUp day (a .stamp)) (day .day-of .ensures) (told .enum-told .given .1) in
-    replies-refusal _ _ (Clear (a .date) (a .stamp)) none (put .put-refusal .ensures) (c .answered .ensures)
+    replies-refusal _ _ (Clear (a .date) (a .stamp)) none (put .no-call .ensures .0) (put .no-call .ensures .1)
 
 clear-value-requires : tie.Need-clear-value-requires
 clear-value-requires c κs = search needs
@@ -43,8 +40,8 @@ answer-requires c κs = search needs
 put-answer-requires : tie.Need-put-answer-requires
 put-answer-requires c κs = search needs
 
-answered-requires-2 : tie.Need-answered-requires-2
-answered-requires-2 c κs = search needs
+answered-requires : tie.Need-answered-requires
+answered-requires c κs = search needs
 
 same-length-2 : tie.Need-same-length-2
 same-length-2 c = search needs
@@ -60,7 +57,7 @@ returns-2 c =
     let day = is .before .before in
     let a = day .before .before .before .args in
     replies-clear _ _ (a .date) (day .day-of .ensures) (is .day .given .1) _ _ _ (made .clear-value .ensures)
-    (put .before .answer .ensures) (put .put-answer .ensures) (c .answered2 .ensures)
+    (put .before .answer .ensures) (put .put-answer .ensures) (c .answered .ensures)
 
 pub clear-spec : {M : Type 1} → statement M
 clear-spec =
@@ -69,14 +66,13 @@ clear-spec =
     day-of-requires
     enum-known-day
     enum-told
-    put-refusal-requires
-    answered-requires
+    no-call-requires
     same-length
     returns
     clear-value-requires
     answer-requires
     put-answer-requires
-    answered-requires-2
+    answered-requires
     same-length-2
     same-length-3
     returns-2)
