@@ -1,4 +1,5 @@
--- What joins the code's functions to the definition of `share`, and `share` to demand 3, as statements; `proofs/Laws.antt` proves each. Assumes nothing.
+-- What joins the code's functions to the definition of `share`, `share` to demand 3, and its numbers to their columns, as statements; `proofs/Laws.antt`
+-- proves each. Assumes nothing.
 use Prim.Native.Nat.{ℕ, _+_, _≤_, _<_}
 use mathlib.Core.Path.{_≡_}
 use mathlib.Core.Bool.{true}

@@ -38,7 +38,7 @@ use Rattle.service.proofs.Submissions.{admitted}
 use Rattle.service.proofs.Evaluations.{evaluating}
 
 -- the record's changing part is that of the group it holds
-state-of : (s : Service) (j : List ℕ) → stateOf (s .state .last) (groupIn s j) ≡ s .state
+pub state-of : (s : Service) (j : List ℕ) → stateOf (s .state .last) (groupIn s j) ≡ s .state
 state-of s j = λ i. record {
   last = s .state .last;
   «kept_stamp» = s .state .«kept_stamp»;
@@ -47,7 +47,7 @@ state-of s j = λ i. record {
 }
 
 -- and writing its entries again alters nothing
-written-again : (s : Service) (j : List ℕ) → 3 * s .state .entries ≤ length j
+pub written-again : (s : Service) (j : List ℕ) → 3 * s .state .entries ≤ length j
     → written (groupIn s j .entries) (s .state .entries - length (groupIn s j .entries)) j ≡ j
 written-again s j h =
     let n = s .state .entries in

@@ -1,19 +1,16 @@
 -- An evaluation leaves record and journal as they were. Assumes nothing.
-use Prim.Native.Nat.{ℕ, _*_, _-_, _≤_}
-use mathlib.Core.Path.{_≡_, refl}
+use Prim.Native.Nat.{ℕ, _*_, _≤_}
+use mathlib.Core.Path.{_≡_, refl, ap}
 use mathlib.Core.List.{List}
-use native.Mathlib.Omega.{arith}
 use lib.ListN.{length}
 use Rattle.answers.specs.declared.Verdict.{Verdict}
 use Rattle.answers.specs.declared.Verdict.the-variants.{Accepted, Refused}
-use Rattle.journal.specs.Stored.{entries}
-use Rattle.journal.proofs.Stored.{length-entries, written-same}
 use Rattle.service.specs.declared.Service.{Service}
 use Rattle.service.specs.Refusals.{evaluationVerdict}
 use Rattle.service.specs.Calls.{evaluated, unless, step}
-use Rattle.service.specs.Record.{groupIn, Left, writtenBack, callOn}
+use Rattle.service.specs.Record.{groupIn, withState, Left, writtenBack, callOn}
 use Rattle.service.specs.Laws.{EvaluationAltersNothing}
-use Rattle.service.proofs.Cores.{evaluation-asked}
+use Rattle.service.proofs.Cores.{state-of, written-again, evaluation-asked}
 
 -- record and journal are left as they were
 abbrev Same : Service → List ℕ → Left → Type 0
@@ -23,11 +20,7 @@ module _ (s : Service) (j : List ℕ) (day quarter T : ℕ) (lent : List ℕ) wh
   -- the group that record and journal hold is written back as it stands there
   written-back : 3 * s .state .entries ≤ length j → Same s j (writtenBack Accepted s j (evaluated (s .state .last) (groupIn s j) day quarter T lent))
   unfolding evaluated
-  written-back h =
-      let n = s .state .entries in
-      let l = length-entries n j in
-      let none : n - length (entries n j) ≡ 0 = omega (arith, l) in
-      (rw l, rw none (written-same n j h))
+  written-back h = (ap (withState s) (state-of s j), written-again s j h)
 
   -- by the verdict: a refused evaluation writes nothing
   either-same : (verdict : Verdict) → (verdict ≡ Accepted → 3 * s .state .entries ≤ length j)
