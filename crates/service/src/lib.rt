@@ -201,30 +201,4 @@ impl Service {
         );
         Evaluated { verdict, rounds }
     }
-
-    // A submission: the record is lent, and altered in place.
-    pub fn submit(
-        &mut self,
-        journal: &mut [u64],
-        clock: u64,
-        code: u64,
-        day: u64,
-        quarter: u64,
-        value: i64,
-    ) -> Submitted
-        ensures { λ r. ⌜ Submits (now (self .entry)) (now (journal .entry)) clock code day quarter value (now (self .exit)) r (now (journal .exit)) ⌝ }
-    {
-        let done = Service::submit_value(*self, journal, clock, code, day, quarter, value);
-        self.state = done.state;
-        done.submitted
-    }
-
-    // A clear: the record is lent, and altered in place.
-    pub fn clear(&mut self, journal: &mut [u64], day: u64, stamp: u64) -> Cleared
-        ensures { λ r. ⌜ Clears (now (self .entry)) (now (journal .entry)) day stamp (now (self .exit)) r (now (journal .exit)) ⌝ }
-    {
-        let done = Service::clear_value(*self, journal, day, stamp);
-        self.state = done.state;
-        done.cleared
-    }
 }

@@ -1,4 +1,4 @@
--- `service::Service::clear` meets its contract: a walk of its MIR. The record is lent, its changing part is stored in place.
+-- `share_c::share_clear` meets its contract: a walk of its MIR. The record is lent, its changing part is stored in place.
 -- Assumes nothing.
 use mathlib.Core.Path.{_≡_, refl, ap}
 use Prim.Native.Nat.{ℕ, _<_, _≤_, _^_, _+_, _*_}
@@ -45,26 +45,26 @@ use denote.Triple.Table.{entered, cited}
 use denote.Triple.Walked.{says, needs, Stays, stay-ref, gave-slice, stay-dropped, walkOf, goes-ref, goes-gave-slice, goes-dropped, Walks, ends-at, walked, walk-meets}
 use denote.Exit.{yes}
 use denote.Signature.{plain, mutSliceOf, shrSliceOf}
-use Rattle.service.specs.Contracts.{Clears}
+use Rattle.share_c.specs.Contracts.{Clears}
 use Rattle.service.specs.declared.Service.{Service}
-use Rattle.service.specs.declared.ClearStep.{ClearStep}
-use Rattle.service.specs.declared.Cleared.{Cleared}
+use Rattle.share_c.specs.declared.ClearStep.{ClearStep}
+use Rattle.share_c.specs.declared.Cleared.{Cleared}
 use Rattle.service.proofs.Service as T
 use Rattle.service.proofs.Service.Laws as T′
-use Rattle.service.proofs.ClearStep as S
-use Rattle.service.proofs.ClearStep.Laws as S′
+use Rattle.share_c.proofs.ClearStep as S
+use Rattle.share_c.proofs.ClearStep.Laws as S′
 use Rattle.service.proofs.State as Y
 use Rattle.service.proofs.State.Laws as Y′
-use Rattle.service.proofs.Cleared as U
-use Rattle.service.proofs.Cleared.Laws as U′
-use Rattle.service.proofs.Service.clear_value as callee
-use Rattle.service.proofs.Service.clear_value.Symbol as callee-def
-use Rattle.service.proofs.Service.clear_value.Symbol.{name as #callee}
-use Rattle.service.proofs.Service.clear_value.Met as callee-thm
-use Rattle.service.proofs.Service.clear.Key.{name as #own}
-use Rattle.service.proofs.Service.clear as own′
-use Rattle.service.proofs.Service.clear.Statement as stated
-use Rattle.service.proofs.Service.clear.Code as code
+use Rattle.share_c.proofs.Cleared as U
+use Rattle.share_c.proofs.Cleared.Laws as U′
+use Rattle.share_c.proofs.clear_value as callee
+use Rattle.share_c.proofs.clear_value.Symbol as callee-def
+use Rattle.share_c.proofs.clear_value.Symbol.{name as #callee}
+use Rattle.share_c.proofs.clear_value.Met as callee-thm
+use Rattle.share_c.proofs.share_clear.Key.{name as #own}
+use Rattle.share_c.proofs.share_clear as own′
+use Rattle.share_c.proofs.share_clear.Statement as stated
+use Rattle.share_c.proofs.share_clear.Code as code
 
 -- what both functions ask, and what both say of the record, the answer and the last lists
 abbrev Said : Service → List ℕ → ℕ → ℕ → Service → Cleared → List ℕ → Type 0
@@ -176,10 +176,10 @@ meets 𝓤 H A W mem run 𝓣 known =
     walk-meets 𝓤 H A own′.ended stayed W (goes-ref 𝓤 H A W 2 0 tt (plain (λ _. T.the-row)), (goes-gave-slice 𝓤 H A W 2 1 tt (plain (λ _. u64)), (goes-dropped 𝓤 H A W 2 (plain (λ _. u64)) yes (λ κs x f. refl), (goes-dropped 𝓤 H A W 2 (plain (λ _. u64)) yes (λ κs x f. refl), tt))))
     (own′.clauses 𝓤 H A mem run) (WpFn 𝓤 H (𝓣 .C) (𝓣 .Λ) code.function) (WpFn-mono 𝓤 H (W .laws) 𝓣 code.function) (walks 𝓤 H A W mem run (𝓣 .C) (𝓣 .Λ) (fmOf 𝓤 H (W .laws) 𝓣) known)
 
-pub clear-spec : {M : Type 1} → stated.statement M
+pub share-clear-spec : {M : Type 1} → stated.statement M
 unfolding code.routine tablesOf
-clear-spec 𝓤 H 𝓜 𝓖 𝓡 =
+share-clear-spec 𝓤 H 𝓜 𝓖 𝓡 =
     entered 𝓤 H (tripleOf 𝓤 H (𝓖 .A) own′.signature (own′.spec 𝓤 H (𝓖 .A) (𝓜 .mem) (𝓡 .run)))
     (tables 𝓤 H 𝓜 𝓡 code.env .C) (tables 𝓤 H 𝓜 𝓡 code.env .Λ) #own code.function (code.unfolded 𝓤 H 𝓜 𝓡)
     (meets 𝓤 H (𝓖 .A) (givenOf 𝓤 H 𝓜 𝓖) (𝓜 .mem) (𝓡 .run) (tablesOf 𝓤 H 𝓜 (tables 𝓤 H 𝓜 𝓡 code.env))
-    (cited 𝓤 H (Callee 𝓤 H (𝓖 .A) (𝓜 .mem) (𝓡 .run)) 𝓜 𝓡 code.env #callee callee-def.routine code.calls-service·Service·clear-value (callee-thm.met 𝓤 H 𝓜 𝓖 𝓡)))
+    (cited 𝓤 H (Callee 𝓤 H (𝓖 .A) (𝓜 .mem) (𝓡 .run)) 𝓜 𝓡 code.env #callee callee-def.routine code.calls-share-c·clear-value (callee-thm.met 𝓤 H 𝓜 𝓖 𝓡)))

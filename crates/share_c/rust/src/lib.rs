@@ -1,0 +1,112 @@
+//! The proved server for Rust: safe calls over the static library of crate share_c.
+//!
+//! [`calls`] has the library's calls as they are, each with an answer of numbers; the methods of [`Registration`] and
+//! [`Service`] give a `Result` instead.
+
+pub mod calls;
+mod refusal;
+
+pub use refusal::Refusal;
+
+/// A buffer of so many bytes holds the text of every registration.
+pub const TEXT_MOST: usize = 4552;
+
+/// A list of so many numbers holds every result.
+pub const RESULT_MOST: usize = 359;
+
+/// A group: its points, producers first, and who names whom with which key. What is not used is 0.
+///
+/// Consumer `c` names `counts[c]` producers, in falling priority, from place `5 * c` on: `sources` has their numbers,
+/// counted from 1, and `keys` the keys in hundredths of a percent.
+#[repr(C)]
+#[derive(Clone, Copy, PartialEq, Eq, Debug)]
+pub struct Registration {
+    pub producers: usize,
+    pub consumers: usize,
+    pub iteration: u8,
+    pub codes: [u64; 64],
+    pub statuses: [u8; 64],
+    pub counts: [u8; 64],
+    pub sources: [u8; 320],
+    pub keys: [u16; 320],
+}
+
+/// What changes of a service's record: last stamp given, kept stamp, kept day, and how many entries the journal has.
+#[repr(C)]
+#[derive(Clone, Copy, PartialEq, Eq, Debug)]
+pub struct State {
+    pub last: u64,
+    pub kept_stamp: u64,
+    pub kept_day: u64,
+    pub entries: usize,
+}
+
+/// The record of a service.
+#[repr(C)]
+#[derive(Clone, Copy, PartialEq, Eq, Debug)]
+pub struct Service {
+    pub registration: Registration,
+    pub state: State,
+}
+
+impl Registration {
+    /// Reads a registration from its text of G, D and O lines.
+    pub fn read(text: &[u8]) -> Result<Registration, Refusal> {
+        let read = calls::read(text);
+        Refusal::unless(read.answer, read.registration)
+    }
+
+    /// Writes the text of G, D and O lines to the front of a buffer, and tells how many bytes it has; later bytes stay.
+    pub fn write(&self, out: &mut [u8]) -> Result<usize, Refusal> {
+        let written = calls::write(self, out);
+        Refusal::unless(written.answer, written.bytes)
+    }
+}
+
+impl Service {
+    /// A service made from a registration alone: no entries, and all stamps and days 0.
+    pub fn fresh(registration: &Registration) -> Result<Service, Refusal> {
+        let fresh = calls::fresh(registration);
+        Refusal::unless(fresh.answer, fresh.service)
+    }
+
+    /// Submits a reading, and tells its stamp.
+    pub fn submit(
+        &mut self,
+        journal: &mut [u64],
+        clock: u64,
+        code: u64,
+        day: u64,
+        quarter: u64,
+        value: i64,
+    ) -> Result<u64, Refusal> {
+        let submitted = calls::submit(self, journal, clock, code, day, quarter, value);
+        Refusal::unless(submitted.answer, submitted.stamp)
+    }
+
+    /// Clears the journal up to a day and a stamp, and tells how many entries were dropped.
+    pub fn clear(&mut self, journal: &mut [u64], day: u64, stamp: u64) -> Result<usize, Refusal> {
+        let cleared = calls::clear(self, journal, day, stamp);
+        Refusal::unless(cleared.answer, cleared.dropped)
+    }
+
+    /// Evaluates a quarter hour as of a stamp, and tells the round count. The result list gets the pairs' shares, then
+    /// what remains of each withdrawal, then of each supply; later numbers stay.
+    pub fn evaluate(
+        &self,
+        journal: &[u64],
+        day: u64,
+        quarter: u64,
+        until: u64,
+        result: &mut [u64],
+    ) -> Result<usize, Refusal> {
+        let evaluated = calls::evaluate(self, journal, day, quarter, until, result);
+        Refusal::unless(evaluated.answer, evaluated.rounds)
+    }
+}
+
+/// The day of a date, which is written as the number YYYYMMDD.
+pub fn day(date: u64) -> Result<u64, Refusal> {
+    let dated = calls::day(date);
+    Refusal::unless(dated.answer, dated.day)
+}
