@@ -1,0 +1,589 @@
+//! The service: a record of the group's registration and state, and the calls that work on a lent journal.
+
+use crate::allocation::Outcome;
+use crate::calendar::{self, DAYS};
+use crate::evaluation::{self, EARLIER};
+use crate::refusal::*;
+use crate::registration::{Registration, POINTS};
+use std::collections::HashMap;
+
+/// How many numbers an entry of the journal has: stamp, place, magnitude.
+pub const ENTRY: usize = 3;
+
+/// How many quarters a place leaves room for on each day.
+const QUARTERS: u64 = 100;
+
+/// The quarters that every day has.
+const SURE_QUARTERS: u64 = 92;
+
+/// The greatest stamp.
+pub const GREATEST_STAMP: u64 = 999_999_999_999;
+
+/// The greatest magnitude of a reading, in hundredths of a kWh.
+pub const GREATEST_MAGNITUDE: u64 = 99_999_999;
+
+/// How many days before the evaluated one its evaluation looks back.
+const LOOK_BACK: u64 = 28;
+
+/// What changes in a service from call to call.
+#[derive(Clone, Copy, PartialEq, Eq, Debug)]
+pub struct State {
+    /// The last stamp given.
+    pub last: u64,
+    /// The kept stamp: no earlier state can be evaluated.
+    pub kept_stamp: u64,
+    /// The kept day: no earlier day has entries.
+    pub kept_day: u64,
+    /// How many entries the journal has.
+    pub entries: usize,
+}
+
+/// The record of one group's service.
+#[derive(Clone, Copy, PartialEq, Eq, Debug)]
+pub struct Service {
+    /// The registration of the group.
+    pub registration: Registration,
+    /// The state after the calls so far.
+    pub state: State,
+}
+
+/// Gives the place of a point, day and quarter.
+fn place_of(point: usize, day: u64, quarter: u64) -> u64 {
+    (point as u64 * DAYS + day) * QUARTERS + quarter - 1
+}
+
+/// Gives the day of a place.
+fn day_of_place(place: u64) -> u64 {
+    place / QUARTERS % DAYS
+}
+
+/// Tells whether a day has a quarter.
+fn quarter_exists(day: u64, quarter: u64) -> bool {
+    calendar::quarters(day).is_some_and(|quarters| (1..=quarters).contains(&quarter))
+}
+
+/// Gives how many of the entries, whose stamps rise, have a stamp at most the given one.
+fn entries_until(entries: &[u64], stamp: u64) -> usize {
+    let (mut low, mut high) = (0, entries.len() / ENTRY);
+    while low < high {
+        let middle = low + (high - low) / 2;
+        if entries[ENTRY * middle] <= stamp {
+            low = middle + 1;
+        } else {
+            high = middle;
+        }
+    }
+    low
+}
+
+/// Gives the newest entry for a place.
+fn newest(entries: &[u64], place: u64) -> Option<&[u64]> {
+    entries.rchunks_exact(ENTRY).find(|entry| entry[1] == place)
+}
+
+/// Gives the magnitude of a value, or nothing if its sign or size does not suit the point's side.
+fn magnitude_of(producer: bool, value: i64) -> Option<u64> {
+    let sign_right = if producer { value >= 0 } else { value <= 0 };
+    let magnitude = value.unsigned_abs();
+    (sign_right && magnitude <= GREATEST_MAGNITUDE).then_some(magnitude)
+}
+
+impl Service {
+    /// Makes a service without entries from a registration alone, unless that is damaged.
+    pub fn fresh(registration: &Registration) -> Result<Service, u64> {
+        if registration.damaged() {
+            return Err(DAMAGED);
+        }
+        let state = State {
+            last: 0,
+            kept_stamp: 0,
+            kept_day: 0,
+            entries: 0,
+        };
+        Ok(Service {
+            registration: *registration,
+            state,
+        })
+    }
+
+    /// Tells whether the record or the journal that goes with it is damaged.
+    pub fn damaged(&self, journal: &[u64]) -> bool {
+        let state = &self.state;
+        self.registration.damaged()
+            || state.kept_stamp > state.last
+            || state.last > GREATEST_STAMP
+            || state.kept_day >= DAYS
+            || state.entries > journal.len() / ENTRY
+            || self.entries_damaged(self.entries(journal))
+    }
+
+    /// Gives the part of the journal that holds entries.
+    fn entries<'a>(&self, journal: &'a [u64]) -> &'a [u64] {
+        &journal[..ENTRY * self.state.entries]
+    }
+
+    /// Tells whether stamps fail to rise up to the last one, or an entry has a wrong place or magnitude.
+    fn entries_damaged(&self, entries: &[u64]) -> bool {
+        let places = self.registration.points() as u64 * DAYS * QUARTERS;
+        let mut before = 0;
+        for entry in entries.chunks_exact(ENTRY) {
+            let (stamp, place, magnitude) = (entry[0], entry[1], entry[2]);
+            if stamp <= before || stamp > self.state.last || place >= places || magnitude > GREATEST_MAGNITUDE {
+                return true;
+            }
+            let (day, quarter) = (day_of_place(place), place % QUARTERS + 1);
+            if day < self.state.kept_day || (quarter > SURE_QUARTERS && !quarter_exists(day, quarter)) {
+                return true;
+            }
+            before = stamp;
+        }
+        false
+    }
+
+    /// Takes a reading and gives the stamp it stands under, or the number of the refusal.
+    pub fn submit(
+        &mut self,
+        journal: &mut [u64],
+        clock: u64,
+        code: u64,
+        day: u64,
+        quarter: u64,
+        value: i64,
+    ) -> Result<u64, u64> {
+        if self.damaged(journal) {
+            return Err(DAMAGED);
+        }
+        let point = self.registration.point_of(code).ok_or(CODE_NOT_IN_GROUP)?;
+        if !quarter_exists(day, quarter) {
+            return Err(NO_SUCH_DAY);
+        }
+        if day < self.state.kept_day {
+            return Err(DAY_CLEARED);
+        }
+        let magnitude = magnitude_of(point < self.registration.producers, value).ok_or(VALUE_WRONG)?;
+        if clock > GREATEST_STAMP || self.state.last == GREATEST_STAMP {
+            return Err(CLOCK_OUTSIDE);
+        }
+        self.store(journal, clock, place_of(point, day, quarter), magnitude)
+    }
+
+    /// Appends an entry for a place unless its newest one has the same magnitude, and gives the stamp.
+    fn store(&mut self, journal: &mut [u64], clock: u64, place: u64, magnitude: u64) -> Result<u64, u64> {
+        match newest(self.entries(journal), place) {
+            Some(entry) if entry[2] == magnitude => return Ok(entry[0]),
+            _ => {}
+        }
+        let end = ENTRY * self.state.entries;
+        let slot = journal[end..].get_mut(..ENTRY).ok_or(JOURNAL_FULL)?;
+        let stamp = clock.max(self.state.last + 1);
+        slot.copy_from_slice(&[stamp, place, magnitude]);
+        self.state.last = stamp;
+        self.state.entries += 1;
+        Ok(stamp)
+    }
+
+    /// Makes a day and stamp the kept ones and gives how many entries that dropped, or the number of the refusal.
+    pub fn clear(&mut self, journal: &mut [u64], day: u64, stamp: u64) -> Result<u64, u64> {
+        if self.damaged(journal) {
+            return Err(DAMAGED);
+        }
+        if day >= DAYS {
+            return Err(NO_SUCH_DAY);
+        }
+        if day < self.state.kept_day {
+            return Err(DAY_CLEARED);
+        }
+        if stamp < self.state.kept_stamp || stamp > self.state.last {
+            return Err(STAMP_OUTSIDE);
+        }
+        let entries = &mut journal[..ENTRY * self.state.entries];
+        let kept = compact(entries, day, stamp);
+        let dropped = self.state.entries - kept;
+        self.state = State {
+            last: self.state.last,
+            kept_stamp: stamp,
+            kept_day: day,
+            entries: kept,
+        };
+        Ok(dropped as u64)
+    }
+
+    /// Evaluates a quarter as of a stamp into the result list and gives the rounds, or the number of the refusal.
+    pub fn evaluate(
+        &self,
+        journal: &[u64],
+        day: u64,
+        quarter: u64,
+        until: u64,
+        result: &mut [u64],
+    ) -> Result<u64, u64> {
+        if self.damaged(journal) {
+            return Err(DAMAGED);
+        }
+        if !quarter_exists(day, quarter) {
+            return Err(NO_SUCH_DAY);
+        }
+        let kept_day = self.state.kept_day;
+        if day < kept_day || (kept_day > 0 && day < kept_day + LOOK_BACK) {
+            return Err(DAY_CLEARED);
+        }
+        if until < self.state.kept_stamp || until > self.state.last {
+            return Err(STAMP_OUTSIDE);
+        }
+        let needed = self.registration.pairs() + self.registration.points();
+        let target = result.get_mut(..needed).ok_or(TOO_SHORT)?;
+        let outcome = self.outcome(self.entries(journal), day, quarter, until);
+        target.copy_from_slice(&outcome.numbers());
+        Ok(outcome.rounds)
+    }
+
+    /// Gives the outcome for a quarter as of a stamp from the entries of an undamaged journal.
+    fn outcome(&self, entries: &[u64], day: u64, quarter: u64, until: u64) -> Outcome {
+        let shown = &entries[..ENTRY * entries_until(entries, until)];
+        let table = gather(shown, day, quarter);
+        evaluation::evaluate(&self.registration, day, |point, on| {
+            table[point][((day - on) / 7) as usize]
+        })
+    }
+}
+
+/// The newest readings of each point, on the evaluated day and on the days one to four weeks earlier.
+type Table = [[Option<u64>; 1 + EARLIER.len()]; POINTS];
+
+/// Gathers the newest readings for a quarter from entries whose stamps rise.
+fn gather(entries: &[u64], day: u64, quarter: u64) -> Table {
+    let mut table: Table = [[None; 1 + EARLIER.len()]; POINTS];
+    for entry in entries.chunks_exact(ENTRY) {
+        let (place, magnitude) = (entry[1], entry[2]);
+        if place % QUARTERS != quarter - 1 {
+            continue;
+        }
+        let of_day = day_of_place(place);
+        if of_day <= day && day - of_day <= LOOK_BACK && (day - of_day).is_multiple_of(7) {
+            let point = (place / QUARTERS / DAYS) as usize;
+            table[point][((day - of_day) / 7) as usize] = Some(magnitude);
+        }
+    }
+    table
+}
+
+/// Moves the entries that a clear keeps to the front, empties the rest and gives how many are kept.
+fn compact(entries: &mut [u64], day: u64, stamp: u64) -> usize {
+    let until = entries_until(entries, stamp);
+    let mut shown = HashMap::new();
+    for (number, entry) in entries.chunks_exact(ENTRY).take(until).enumerate() {
+        shown.insert(entry[1], number);
+    }
+    let mut kept = 0;
+    for number in 0..entries.len() / ENTRY {
+        let place = entries[ENTRY * number + 1];
+        if day_of_place(place) >= day && (number >= until || shown.get(&place) == Some(&number)) {
+            entries.copy_within(ENTRY * number..ENTRY * (number + 1), ENTRY * kept);
+            kept += 1;
+        }
+    }
+    entries[ENTRY * kept..].fill(0);
+    kept
+}
+
+#[cfg(test)]
+mod tests {
+    use super::*;
+    use crate::book::Book;
+    use crate::samples::{code, group, large_group, Dice, CONSUMER, FOREIGN, PRODUCER};
+
+    /// Gives a fresh service of the sample group and an empty journal for a number of entries.
+    fn fresh(entries: usize) -> (Service, Vec<u64>) {
+        (Service::fresh(&group()).unwrap(), vec![0; ENTRY * entries])
+    }
+
+    /// Gives the producer's remaining supply as of a stamp, while consumers have no readings.
+    fn supply(service: &Service, journal: &[u64], day: u64, quarter: u64, until: u64) -> Result<u64, u64> {
+        let mut result = [0; 5];
+        service
+            .evaluate(journal, day, quarter, until, &mut result)
+            .map(|_| result[4])
+    }
+
+    #[test]
+    fn stamps_do_not_go_back_with_the_clock() {
+        let (mut service, mut journal) = fresh(9);
+        assert_eq!(service.submit(&mut journal, 500, PRODUCER, 1, 1, 10), Ok(500));
+        assert_eq!(service.submit(&mut journal, 20, PRODUCER, 1, 1, 11), Ok(501));
+        assert_eq!(service.submit(&mut journal, 20, PRODUCER, 1, 1, 11), Ok(501));
+        assert_eq!(service.submit(&mut journal, 900, PRODUCER, 1, 1, 10), Ok(900));
+        assert_eq!(
+            service.state,
+            State {
+                last: 900,
+                kept_stamp: 0,
+                kept_day: 0,
+                entries: 3
+            }
+        );
+        assert_eq!(journal[..12], [500, 100, 10, 501, 100, 11, 900, 100, 10, 0, 0, 0]);
+        assert_eq!(supply(&service, &journal, 1, 1, 499), Ok(0));
+        assert_eq!(supply(&service, &journal, 1, 1, 500), Ok(10));
+        assert_eq!(supply(&service, &journal, 1, 1, 899), Ok(11));
+        assert_eq!(supply(&service, &journal, 1, 1, 900), Ok(10));
+        assert_eq!(supply(&service, &journal, 1, 1, 901), Err(STAMP_OUTSIDE));
+    }
+
+    #[test]
+    fn a_clear_keeps_the_reading_shown_at_the_kept_stamp() {
+        let (mut service, mut journal) = fresh(6);
+        for (clock, day, value) in [(1, 0, 5), (2, 30, 6), (3, 30, 7), (4, 31, 8), (5, 30, 9)] {
+            assert_eq!(service.submit(&mut journal, clock, PRODUCER, day, 1, value), Ok(clock));
+        }
+        journal[15..].fill(77);
+        assert_eq!(service.clear(&mut journal, 1, 4), Ok(2));
+        assert_eq!(
+            service.state,
+            State {
+                last: 5,
+                kept_stamp: 4,
+                kept_day: 1,
+                entries: 3
+            }
+        );
+        assert_eq!(
+            journal,
+            [3, 3000, 7, 4, 3100, 8, 5, 3000, 9, 0, 0, 0, 0, 0, 0, 77, 77, 77]
+        );
+        assert_eq!(supply(&service, &journal, 30, 1, 4), Ok(7));
+        assert_eq!(supply(&service, &journal, 30, 1, 5), Ok(9));
+        assert_eq!(supply(&service, &journal, 30, 1, 3), Err(STAMP_OUTSIDE));
+        assert_eq!(service.clear(&mut journal, 1, 3), Err(STAMP_OUTSIDE));
+        assert_eq!(service.clear(&mut journal, 0, 3), Err(DAY_CLEARED));
+        assert_eq!(service.clear(&mut journal, 27758, 5), Ok(3));
+        assert_eq!(service.state.last, 5);
+        assert_eq!(service.submit(&mut journal, 0, PRODUCER, 27758, 96, 1), Ok(6));
+    }
+
+    #[test]
+    fn a_kept_day_bars_four_weeks() {
+        let (mut service, mut journal) = fresh(9);
+        assert_eq!(supply(&service, &journal, 0, 1, 0), Ok(0));
+        assert_eq!(service.clear(&mut journal, 100, 0), Ok(0));
+        assert_eq!(supply(&service, &journal, 99, 1, 0), Err(DAY_CLEARED));
+        assert_eq!(supply(&service, &journal, 127, 1, 0), Err(DAY_CLEARED));
+        assert_eq!(supply(&service, &journal, 128, 1, 0), Ok(0));
+        assert_eq!(service.submit(&mut journal, 1, PRODUCER, 99, 1, 0), Err(DAY_CLEARED));
+        assert_eq!(service.submit(&mut journal, 1, PRODUCER, 100, 1, 0), Ok(1));
+    }
+
+    #[test]
+    fn substitutes_are_means_of_four_weeks() {
+        let (mut service, mut journal) = fresh(20);
+        for (day, value) in [(0, 1), (7, 2), (14, 10), (21, 11), (1, 900), (35, 500)] {
+            service.submit(&mut journal, 0, PRODUCER, day, 96, value).unwrap();
+        }
+        assert_eq!(supply(&service, &journal, 28, 96, 2), Ok(2));
+        assert_eq!(supply(&service, &journal, 28, 96, 1), Ok(1));
+        assert_eq!(supply(&service, &journal, 28, 96, 4), Ok(6));
+        assert_eq!(supply(&service, &journal, 28, 95, 4), Ok(0));
+        assert_eq!(supply(&service, &journal, 35, 96, 5), Ok(8));
+        assert_eq!(supply(&service, &journal, 35, 96, 6), Ok(500));
+        service.registration.statuses[0] = 3;
+        assert_eq!(supply(&service, &journal, 28, 96, 4), Ok(0));
+        assert_eq!(supply(&service, &journal, 35, 96, 6), Ok(500));
+    }
+
+    #[test]
+    fn an_earlier_day_without_the_quarter_gives_no_value() {
+        let (mut service, mut journal) = fresh(20);
+        service.submit(&mut journal, 0, PRODUCER, 83, 96, 40).unwrap();
+        assert_eq!(service.submit(&mut journal, 0, PRODUCER, 90, 93, 40), Err(NO_SUCH_DAY));
+        assert_eq!(supply(&service, &journal, 97, 96, 1), Ok(40));
+        service.submit(&mut journal, 0, PRODUCER, 300, 100, 70).unwrap();
+        assert_eq!(
+            service.submit(&mut journal, 0, PRODUCER, 300, 101, 40),
+            Err(NO_SUCH_DAY)
+        );
+        assert_eq!(supply(&service, &journal, 300, 100, 2), Ok(70));
+        assert_eq!(supply(&service, &journal, 307, 97, 2), Err(NO_SUCH_DAY));
+    }
+
+    #[test]
+    fn submissions_are_refused_in_order() {
+        let (mut service, mut journal) = fresh(1);
+        service.submit(&mut journal, 7, CONSUMER, 5, 5, -9).unwrap();
+        let cases = [
+            (1 << 40, FOREIGN, 9, 0, i64::MIN, CODE_NOT_IN_GROUP),
+            (1 << 40, 0, 9, 1, 0, CODE_NOT_IN_GROUP),
+            (1 << 40, PRODUCER, DAYS, 1, -1, NO_SUCH_DAY),
+            (1 << 40, PRODUCER, u64::MAX, u64::MAX, -1, NO_SUCH_DAY),
+            (1 << 40, PRODUCER, 1, 0, -1, NO_SUCH_DAY),
+            (1 << 40, PRODUCER, 1, 97, -1, NO_SUCH_DAY),
+            (1 << 40, PRODUCER, 1, 1, -1, VALUE_WRONG),
+            (1 << 40, PRODUCER, 1, 1, 100_000_000, VALUE_WRONG),
+            (1 << 40, CONSUMER, 1, 1, 1, VALUE_WRONG),
+            (1 << 40, CONSUMER, 1, 1, i64::MIN, VALUE_WRONG),
+            (1_000_000_000_000, CONSUMER, 5, 5, -9, CLOCK_OUTSIDE),
+            (GREATEST_STAMP, CONSUMER, 5, 5, -8, JOURNAL_FULL),
+        ];
+        for (clock, code, day, quarter, value, refusal) in cases {
+            let before = (service, journal.clone());
+            assert_eq!(
+                service.submit(&mut journal, clock, code, day, quarter, value),
+                Err(refusal)
+            );
+            assert_eq!((service, journal.clone()), before);
+        }
+        assert_eq!(service.submit(&mut journal, 0, CONSUMER, 5, 5, -9), Ok(7));
+    }
+
+    #[test]
+    fn the_greatest_stamp_ends_submissions() {
+        let (mut service, mut journal) = fresh(3);
+        assert_eq!(
+            service.submit(&mut journal, GREATEST_STAMP, CONSUMER, 5, 5, 0),
+            Ok(GREATEST_STAMP)
+        );
+        assert_eq!(service.submit(&mut journal, 1, CONSUMER, 5, 5, 0), Err(CLOCK_OUTSIDE));
+        assert_eq!(service.submit(&mut journal, 1, CONSUMER, 5, 5, 1), Err(VALUE_WRONG));
+        assert_eq!(supply(&service, &journal, 5, 5, GREATEST_STAMP), Ok(0));
+    }
+
+    #[test]
+    fn short_lists_are_refused_last() {
+        let (mut service, _) = fresh(0);
+        assert_eq!(service.submit(&mut [0; 2], 1, PRODUCER, 1, 1, 1), Err(JOURNAL_FULL));
+        let mut result = [9; 6];
+        assert_eq!(service.evaluate(&[], 1, 1, 0, &mut result[..4]), Err(TOO_SHORT));
+        assert_eq!(service.evaluate(&[], 1, 1, 1, &mut result[..4]), Err(STAMP_OUTSIDE));
+        assert_eq!(result, [9; 6]);
+        assert_eq!(service.evaluate(&[], 1, 1, 0, &mut result), Ok(2));
+        assert_eq!(result, [0, 0, 0, 0, 0, 9]);
+    }
+
+    #[test]
+    fn every_broken_rule_is_damage() {
+        let (mut service, mut journal) = fresh(3);
+        service.submit(&mut journal, 50, PRODUCER, 90, 92, 1).unwrap();
+        service.submit(&mut journal, 60, CONSUMER, 90, 92, -99999999).unwrap();
+        assert!(!service.damaged(&journal));
+        let states: [fn(&mut State); 6] = [
+            |state| state.kept_stamp = 61,
+            |state| state.last = 1_000_000_000_000,
+            |state| state.last = 59,
+            |state| state.kept_day = 91,
+            |state| state.entries = 3,
+            |state| state.entries = usize::MAX,
+        ];
+        for (number, change) in states.iter().enumerate() {
+            let mut changed = service;
+            change(&mut changed.state);
+            assert!(changed.damaged(&journal), "state {number}");
+        }
+        let damage = [
+            (0, 0),
+            (0, 60),
+            (3, 50),
+            (1, 9092),
+            (1, 3 * DAYS * 100),
+            (1, u64::MAX),
+            (5, 100_000_000),
+        ];
+        for (place, number) in damage {
+            let mut changed = journal.clone();
+            changed[place] = number;
+            assert!(service.damaged(&changed), "number {place}");
+            assert_eq!(service.submit(&mut changed, u64::MAX, 0, 0, 0, 0), Err(DAMAGED));
+            assert_eq!(service.clear(&mut changed, u64::MAX, 0), Err(DAMAGED));
+            assert_eq!(service.evaluate(&changed, u64::MAX, 0, 0, &mut []), Err(DAMAGED));
+        }
+        assert!(service.damaged(&journal[..5]));
+        assert_eq!(Service::fresh(&Registration::zeros()), Err(DAMAGED));
+    }
+
+    /// Gives a number that is often small, sometimes huge.
+    fn any_number(dice: &mut Dice, usual: u64) -> u64 {
+        match dice.below(40) {
+            0 => u64::MAX,
+            1 => dice.below(u64::MAX),
+            _ => dice.below(usual),
+        }
+    }
+
+    #[test]
+    fn service_and_book_agree() {
+        for seed in 1..40u64 {
+            let mut dice = Dice(seed.wrapping_mul(0x9E3779B97F4A7C15));
+            let (producers, consumers) = (1 + dice.below(6), 1 + dice.below(6));
+            let registration = large_group(producers as usize, consumers as usize, dice.below(2) as u8);
+            let mut service = Service::fresh(&registration).unwrap();
+            let mut book = Book::new(&registration);
+            let mut journal = vec![dice.below(9); 40 + dice.below(400) as usize];
+            for _ in 0..3000 {
+                play(&mut dice, &mut service, &mut journal, &mut book);
+                assert!(!service.damaged(&journal));
+            }
+        }
+    }
+
+    /// Plays one call on service and book and compares them.
+    fn play(dice: &mut Dice, service: &mut Service, journal: &mut [u64], book: &mut Book) {
+        let day = any_number(dice, 6).saturating_mul(7).saturating_add(49);
+        let quarter = any_number(dice, 2).saturating_add(1);
+        let stamp = service.state.last.saturating_sub(dice.below(30)) + dice.below(2);
+        let before = (*service, journal.to_vec());
+        let refused = match dice.below(100) {
+            0 => service.clear(journal, dice.below(5) * 7, stamp).is_err(),
+            1..=40 => {
+                let mut result = [4; 100];
+                let answer = service.evaluate(journal, day, quarter, stamp, &mut result);
+                if let Ok(rounds) = answer {
+                    let expected = book.result(day, quarter, stamp);
+                    assert_eq!(rounds, expected.rounds);
+                    assert_eq!(result[..expected.numbers().len()], expected.numbers());
+                }
+                true
+            }
+            _ => {
+                let point = dice.below(service.registration.points() as u64 + 1);
+                let producer = (point as usize) < service.registration.producers;
+                let value = dice.below(4) as i64 * if producer { 1 } else { -1 };
+                let clock = service.state.last.saturating_sub(3) + dice.below(6);
+                let answer = service.submit(journal, clock, code(point), day, quarter, value);
+                if let Ok(stamp) = answer {
+                    assert_eq!(book.submit(clock, code(point), day, quarter, value), stamp);
+                    assert_eq!(book.last(), service.state.last);
+                }
+                answer.is_err()
+            }
+        };
+        if refused {
+            assert!((*service, journal.to_vec()) == before);
+        }
+    }
+
+    #[test]
+    fn any_record_and_journal_are_borne() {
+        let mut dice = Dice(88172645463325252);
+        for _ in 0..20000 {
+            let (mut service, mut journal) = (Service::fresh(&group()).unwrap(), vec![0; dice.below(12) as usize]);
+            let _ = service.submit(&mut journal, 5, PRODUCER, 30, 3, 4);
+            let _ = service.submit(&mut journal, 9, CONSUMER, 30, 3, -4);
+            let odd = any_number(&mut dice, 40);
+            match dice.below(8) {
+                0 => service.registration.producers = odd as usize,
+                1 => service.registration.consumers = odd as usize,
+                2 => service.state.last = odd,
+                3 => service.state.kept_day = odd,
+                4 => service.state.kept_stamp = odd,
+                5 => service.state.entries = odd as usize,
+                _ => journal.iter_mut().for_each(|number| *number ^= odd * (*number % 2)),
+            }
+            let (day, quarter, stamp) = (
+                any_number(&mut dice, 70),
+                any_number(&mut dice, 5),
+                any_number(&mut dice, 12),
+            );
+            let mut result = [0; 5];
+            let _ = service.evaluate(&journal, day, quarter, stamp, &mut result);
+            let _ = service.submit(&mut journal, stamp, PRODUCER, day, quarter, odd as i64);
+            let _ = service.clear(&mut journal, day, stamp);
+        }
+    }
+}
