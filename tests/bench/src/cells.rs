@@ -1,0 +1,139 @@
+//! The cells of the table: each call on each group, with so many entries in the journal.
+
+use crate::data::{self, Journal, Reading};
+use crate::servers::{Call, State};
+use second::registration::Registration;
+
+/// What is measured: a call, the group and journal that it starts from, and the answer that it has to give.
+pub struct Cell {
+    pub name: &'static str,
+    pub registration: Registration,
+    pub journal: Journal,
+    pub call: Call,
+    pub answer: u64,
+}
+
+/// The producers and consumers of each group.
+const GROUPS: [(usize, usize); 2] = [(3, 5), (5, 59)];
+
+/// The numbers of entries for every call.
+const ENTRIES: [usize; 3] = [1_000, 10_000, 100_000];
+
+/// The number of entries for the clear alone.
+const ENTRIES_CLEARED: usize = 400_000;
+
+/// The most points of a group with several rounds, and the most rounds.
+const ITERATED: (usize, u64) = (50, 5);
+
+/// A way to make a cell for a group and a number of entries.
+type Maker = fn(&Registration, usize) -> Cell;
+
+impl Cell {
+    /// The numbers of the record before the call.
+    pub fn state(&self) -> State {
+        [self.journal.last, 0, 0, self.journal.entries as u64]
+    }
+
+    /// The cell in words, for messages.
+    pub fn words(&self) -> String {
+        format!(
+            "{} with {} points and {} entries",
+            self.name,
+            self.registration.points(),
+            self.journal.entries
+        )
+    }
+}
+
+/// The submission of a reading by its point.
+fn submission(registration: &Registration, clock: u64, reading: &Reading) -> Call {
+    let code = registration.codes[reading.point];
+    let value = reading.value(registration);
+    Call::Submit {
+        clock,
+        code,
+        day: reading.day,
+        quarter: reading.quarter,
+        value,
+    }
+}
+
+/// A cell of a call that has to answer with a number, on a journal of these readings.
+fn cell(name: &'static str, registration: &Registration, readings: &[Reading], call: Call, answer: u64) -> Cell {
+    Cell {
+        name,
+        registration: *registration,
+        journal: Journal::of(readings),
+        call,
+        answer,
+    }
+}
+
+/// The submission of the reading that follows those of the journal: it is stored under the clock's stamp.
+fn submit_new(registration: &Registration, entries: usize) -> Cell {
+    let readings = data::readings(registration, entries + 1);
+    let clock = data::FIRST_STAMP + entries as u64;
+    let call = submission(registration, clock, &readings[entries]);
+    cell("submit, new", registration, &readings[..entries], call, clock)
+}
+
+/// The submission of the reading in the middle of the journal once more: its stamp is told again.
+fn submit_repeat(registration: &Registration, entries: usize) -> Cell {
+    let readings = data::readings(registration, entries);
+    let middle = entries / 2;
+    let call = submission(registration, data::FIRST_STAMP + entries as u64, &readings[middle]);
+    cell(
+        "submit, repeat",
+        registration,
+        &readings,
+        call,
+        data::FIRST_STAMP + middle as u64,
+    )
+}
+
+/// The evaluation, as of the last stamp, of the last quarter hour that has readings of all points.
+fn evaluate(registration: &Registration, entries: usize) -> Cell {
+    let readings = data::readings(registration, entries);
+    let Reading { day, quarter, .. } = readings[entries - registration.points()];
+    let call = Call::Evaluate {
+        day,
+        quarter,
+        until: data::FIRST_STAMP + entries as u64 - 1,
+    };
+    let (points_most, rounds_most) = ITERATED;
+    let rounds = if registration.points() <= points_most {
+        rounds_most.min(registration.consumers as u64)
+    } else {
+        1
+    };
+    cell("evaluate", registration, &readings, call, rounds)
+}
+
+/// The clear up to day 0 and the last stamp: it drops the half of the entries that are superseded.
+fn clear(registration: &Registration, entries: usize) -> Cell {
+    let readings = data::corrected_readings(registration, entries);
+    let call = Call::Clear {
+        day: 0,
+        stamp: data::FIRST_STAMP + entries as u64 - 1,
+    };
+    cell("clear", registration, &readings, call, entries as u64 / 2)
+}
+
+/// All cells, each made when it is asked for, in the order of the table.
+pub fn all() -> impl Iterator<Item = Cell> {
+    let makers: [(Maker, &[usize]); 4] = [
+        (submit_new, &[]),
+        (submit_repeat, &[]),
+        (evaluate, &[]),
+        (clear, &[ENTRIES_CLEARED]),
+    ];
+    makers.into_iter().flat_map(|(make, more)| {
+        GROUPS.into_iter().flat_map(move |(producers, consumers)| {
+            let registration = data::group(producers, consumers);
+            ENTRIES
+                .iter()
+                .chain(more)
+                .map(move |&entries| make(&registration, entries))
+        })
+    })
+}
