@@ -1,0 +1,53 @@
+#!/usr/bin/env bash
+# Faults planted in a copy of the second implementation, one at a time: the runs against the program or the library have to find each. A fault is a file
+# tests/planted/NAME.edit: a sentence, the file, and the text that stands there once with the one that replaces it, as in the must-fail edits.
+set -u
+cd "$(dirname "$0")/.." || exit 1
+home=$PWD
+[ -x target/bin/share ] || rt check share || exit 1
+[ -e target/staticlib/libshare_c.a ] || rt staticlib share_c || exit 1
+
+folder=$(mktemp -d)
+trap 'rm -rf "$folder"' EXIT
+mkdir "$folder/tests"
+cp -r tests/Cargo.toml tests/runs tests/bench "$folder/tests"
+ln -s "$home/crates" "$folder/crates"
+ln -s "$home/target" "$folder/target"
+caught=0
+missed=0
+
+# Plants a fault in the copy.
+plant() {
+    rm -rf "$folder/tests/second"
+    cp -r tests/second "$folder/tests"
+    python3 - "$1" "$folder/tests/second" <<'P'
+import sys
+fields = dict(line.rstrip("\n").split(": ", 1) for line in open(sys.argv[1]) if not line.startswith("#"))
+path = sys.argv[2] + "/" + fields["file"]
+text = open(path).read()
+if text.count(fields["old"]) != 1:
+    sys.exit(f"{sys.argv[1]}: its old text stands {text.count(fields['old'])} times in {fields['file']}")
+open(path, "w").write(text.replace(fields["old"], fields["new"]))
+P
+}
+
+for edit in tests/planted/*.edit; do
+    name=$(basename "$edit" .edit)
+    if ! plant "$edit" || ! (cd "$folder/tests" && cargo build --quiet --offline --profile checked -p runs --target-dir "$folder/cargo"); then
+        missed=$((missed + 1))
+        continue
+    fi
+    found=
+    for run in program library; do
+        "$folder/cargo/checked/runs" "$run" >"$folder/out" 2>&1 || found="$found $run"
+    done
+    if [ -n "$found" ]; then
+        caught=$((caught + 1))
+        echo "planted.sh: $name is found by:$found"
+    else
+        missed=$((missed + 1))
+        echo "planted.sh: $name is not found"
+    fi
+done
+echo "planted.sh: $caught planted faults found, $missed not"
+[ "$caught" -gt 0 ] && [ "$missed" -eq 0 ]

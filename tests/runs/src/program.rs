@@ -1,0 +1,174 @@
+//! Inputs through program `share` and through the second implementation, byte for byte.
+
+use crate::events;
+use crate::groups;
+use crate::lines;
+use crate::random::Random;
+use crate::sheets;
+use crate::smaller;
+use second::service::Service;
+use std::io::{Read, Write};
+use std::path::{Path, PathBuf};
+use std::process::{Command, Stdio};
+
+/// How many bytes the program reads.
+const INPUT_MOST: usize = 32768;
+
+/// How many numbers the program's journal has.
+const JOURNAL: usize = 3000;
+
+/// The answers that a text can have: 14, 15 and 16 are refusals of calls that the program never makes.
+const ANSWERS: std::ops::RangeInclusive<usize> = 0..=13;
+
+/// The program that `rt` proved and built.
+fn program() -> PathBuf {
+    Path::new(env!("CARGO_MANIFEST_DIR")).join("../../target/bin/share")
+}
+
+/// What the program writes for an input.
+fn written(program: &Path, input: &[u8]) -> Vec<u8> {
+    let mut child = Command::new(program)
+        .stdin(Stdio::piped())
+        .stdout(Stdio::piped())
+        .spawn()
+        .unwrap_or_else(|error| panic!("{}: {error}; `rt check share` builds it", program.display()));
+    // The program reads its input before it writes, and ends early where there is too much of it.
+    let _ = child.stdin.take().expect("a pipe").write_all(input);
+    let mut output = Vec::new();
+    child
+        .stdout
+        .take()
+        .expect("a pipe")
+        .read_to_end(&mut output)
+        .expect("the program's output");
+    assert!(
+        child.wait().expect("the program's end").success(),
+        "the program ends by itself"
+    );
+    output
+}
+
+/// Makes a call on the service that the input's events have left, so that later events fit it.
+fn follow(service: &mut Service, journal: &mut [u64], event: events::Event) {
+    match event {
+        events::Event::Submission {
+            clock,
+            code,
+            day,
+            quarter,
+            value,
+        } => {
+            let _ = service.submit(journal, clock, code, day, quarter, value);
+        }
+        events::Event::Clear { day, stamp } => {
+            let _ = service.clear(journal, day, stamp);
+        }
+        events::Event::Evaluation { .. } => {}
+    }
+}
+
+/// How many bytes of events an input gets: mostly few, now and then about as many as the program reads.
+fn length(random: &mut Random) -> usize {
+    match random.below(40) {
+        0 => INPUT_MOST + random.place(200) - 100,
+        1 => random.place(INPUT_MOST),
+        _ => random.place(3000),
+    }
+}
+
+/// The lines of an input: a registration, then events.
+fn input(random: &mut Random) -> Vec<u8> {
+    let registration = groups::registration(random);
+    let mut text = if random.one_in(4) {
+        sheets::broken_text(random, &registration)
+    } else {
+        sheets::right_text(&registration)
+    };
+    if random.one_in(8) && !text.is_empty() {
+        lines::spoil(random, &mut text);
+    }
+    let mut service = Service::fresh(&registration).expect("a registration that keeps every rule");
+    let mut journal = vec![0; JOURNAL];
+    let slots = events::slots(random);
+    let most = length(random);
+    while text.len() < most {
+        let event = events::event(random, &service, &journal, &slots);
+        let mut line = lines::line(random, event);
+        if random.one_in(15) {
+            lines::spoil(random, &mut line);
+        } else {
+            follow(&mut service, &mut journal, event);
+        }
+        text.extend(line);
+    }
+    cut(random, &mut text);
+    text
+}
+
+/// Brings a long input to just the number of bytes that are read, or to one more.
+fn cut(random: &mut Random, text: &mut Vec<u8>) {
+    if text.len() > INPUT_MOST && random.one_in(2) {
+        text.truncate(INPUT_MOST + random.place(2));
+        if let Some(last) = text.last_mut() {
+            *last = b'\n';
+        }
+    }
+}
+
+/// Counts the answers of an output's A and R lines.
+fn tally(output: &[u8], answers: &mut [u64; 17]) {
+    for line in output
+        .split(|&byte| byte == b'\n')
+        .filter(|line| matches!(line.first(), Some(b'A' | b'R')))
+    {
+        let answer: usize = std::str::from_utf8(&line[1..5])
+            .ok()
+            .and_then(|text| text.trim().parse().ok())
+            .unwrap_or(0);
+        answers[answer] += 1;
+    }
+}
+
+/// Says what differs: the seed, the smallest failing input found, and both outputs.
+fn report(seed: u64, program: &Path, input: &[u8]) -> String {
+    let differs = |lines: &[&[u8]]| {
+        let input = lines.concat();
+        written(program, &input) != second::program::share(&input)
+    };
+    let whole: Vec<&[u8]> = input.split_inclusive(|&byte| byte == b'\n').collect();
+    let smallest = smaller::smallest(&whole, 2000, &mut |lines| differs(lines)).concat();
+    let show = |bytes: &[u8]| bytes.escape_ascii().to_string().replace("\\n", "\\n\n");
+    format!(
+        "seed {seed}: the outputs differ. The smallest failing input found:
+{}
+\
+         program share writes:
+{}
+the second implementation:
+{}",
+        show(&smallest),
+        show(&written(program, &smallest)),
+        show(&second::program::share(&smallest))
+    )
+}
+
+/// Compares so many inputs, the first one that of the seed.
+pub fn compare(seed: u64, count: u64) -> Result<String, String> {
+    let program = program();
+    let mut answers = [0; 17];
+    for seed in seed..seed + count {
+        let input = input(&mut Random::new(seed));
+        let expected = second::program::share(&input);
+        if written(&program, &input) != expected {
+            return Err(report(seed, &program, &input));
+        }
+        tally(&expected, &mut answers);
+    }
+    if let Some(missing) = ANSWERS.clone().find(|&answer| count >= 2000 && answers[answer] == 0) {
+        return Err(format!("no input was answered by {missing}"));
+    }
+    Ok(format!(
+        "{count} inputs from seed {seed} on, the same bytes; answers 0 to 13: {:?}",
+        &answers[ANSWERS]
+    ))
+}

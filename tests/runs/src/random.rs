@@ -1,0 +1,60 @@
+//! Numbers that look random and come again from the same seed.
+
+use std::sync::atomic::{AtomicU64, Ordering};
+
+/// The seed of the newest source, for a run that breaks off.
+static SEED: AtomicU64 = AtomicU64::new(0);
+
+/// Lets a run that breaks off say its seed.
+pub fn tell_seed() {
+    let tell = std::panic::take_hook();
+    std::panic::set_hook(Box::new(move |why| {
+        eprintln!("seed {}:", SEED.load(Ordering::Relaxed));
+        tell(why);
+    }));
+}
+
+/// A source of numbers, fixed by its seed.
+pub struct Random(u64);
+
+impl Random {
+    /// The source of a seed.
+    pub fn new(seed: u64) -> Random {
+        SEED.store(seed, Ordering::Relaxed);
+        Random(seed.wrapping_mul(0x9e37_79b9_7f4a_7c15))
+    }
+
+    /// The next number, any of 64 bits (the generator splitmix64).
+    pub fn number(&mut self) -> u64 {
+        self.0 = self.0.wrapping_add(0x9e37_79b9_7f4a_7c15);
+        let mut z = self.0;
+        z = (z ^ (z >> 30)).wrapping_mul(0xbf58_476d_1ce4_e5b9);
+        z = (z ^ (z >> 27)).wrapping_mul(0x94d0_49bb_1331_11eb);
+        z ^ (z >> 31)
+    }
+
+    /// A number below `n`, which is not 0.
+    pub fn below(&mut self, n: u64) -> u64 {
+        self.number() % n
+    }
+
+    /// A place of a list that has `n` elements, which is not 0.
+    pub fn place(&mut self, n: usize) -> usize {
+        self.below(n as u64) as usize
+    }
+
+    /// A number from `least` to `most`, both included.
+    pub fn between(&mut self, least: u64, most: u64) -> u64 {
+        least + self.below(most - least + 1)
+    }
+
+    /// True once in `n` times.
+    pub fn one_in(&mut self, n: u64) -> bool {
+        self.below(n) == 0
+    }
+
+    /// One element of a list that is not empty.
+    pub fn pick<T: Copy>(&mut self, list: &[T]) -> T {
+        list[self.place(list.len())]
+    }
+}
