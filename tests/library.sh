@@ -3,7 +3,7 @@
 # and run. Each has to write what program `share` writes for case LIST.
 set -u
 cd "$(dirname "$0")/.." || exit 1
-rt staticlib share_c >target/staticlib.log 2>&1 || { cat target/staticlib.log; exit 1; }
+bash tests/built.sh || exit 1
 
 home=crates/share_c
 folder=$(mktemp -d)

@@ -1,11 +1,11 @@
 #!/usr/bin/env bash
-# Faults planted in a copy of the second implementation, one at a time: the runs against the program or the library have to find each. A fault is a file
-# tests/planted/NAME.edit: a sentence, the file, and the text that stands there once with the one that replaces it, as in the must-fail edits.
+# Faults planted in a copy of the second implementation, one at a time: a run has to find each, by a difference and nothing else. The soak sees only
+# those that the book has too. A fault is a file tests/planted/NAME.edit: a sentence, the file, and the text that stands there once with the one that
+# replaces it, as in the must-fail edits.
 set -u
 cd "$(dirname "$0")/.." || exit 1
 home=$PWD
-[ -x target/bin/share ] || rt check share || exit 1
-[ -e target/staticlib/libshare_c.a ] || rt staticlib share_c || exit 1
+bash tests/built.sh || exit 1
 
 folder=$(mktemp -d)
 trap 'rm -rf "$folder"' EXIT
@@ -38,8 +38,11 @@ for edit in tests/planted/*.edit; do
         continue
     fi
     found=
-    for run in program library; do
-        "$folder/cargo/checked/runs" "$run" >"$folder/out" 2>&1 || found="$found $run"
+    for run in program library "soak 1 20000"; do
+        # shellcheck disable=SC2086
+        if ! "$folder/cargo/checked/runs" $run >"$folder/out" 2>&1 && grep -qE 'differ|, the book' "$folder/out"; then
+            found="$found ${run%% *}"
+        fi
     done
     if [ -n "$found" ]; then
         caught=$((caught + 1))

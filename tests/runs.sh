@@ -3,6 +3,5 @@
 # A failure prints its seed and the smallest failing input found. Program and static library are proved and built where they are not there yet.
 set -u
 cd "$(dirname "$0")/.." || exit 1
-[ -x target/bin/share ] || rt check share || exit 1
-[ -e target/staticlib/libshare_c.a ] || rt staticlib share_c || exit 1
+bash tests/built.sh || exit 1
 cd tests && cargo run --quiet --profile checked -p runs -- "$@"

@@ -7,7 +7,7 @@
  * Every call is total: it takes any numbers and any contents, ends, and refuses what it cannot do. The library has no memory of its own: it
  * allocates nothing, keeps no pointer, and has no global variable. The caller owns record, journal, text, buffer and result list, lends them
  * for the length of a call, and gets them back when it returns. Calls on different records and journals may run at the same time on
- * different threads; calls on one record and its journal must not. A call needs up to about 150 KB of stack.
+ * different threads; calls on one record and its journal must not. A clear needs about 160 KB of stack, every other call less than 50 KB.
  *
  * What the caller must see to, since no call can look: a pointer is not NULL, is aligned for its type, and has behind it as many elements as
  * the length beside it says; a length of 0 needs a pointer that is not NULL too, as that of an array. What is lent for writing

@@ -1,15 +1,16 @@
 //! The cells of the table: each call on each group, with so many entries in the journal.
 
 use crate::data::{self, Journal, Reading};
-use crate::servers::{Call, State};
+use runs::sides::Event;
 use second::registration::Registration;
+use second::service::State;
 
 /// What is measured: a call, the group and journal that it starts from, and the answer that it has to give.
 pub struct Cell {
     pub name: &'static str,
     pub registration: Registration,
     pub journal: Journal,
-    pub call: Call,
+    pub call: Event,
     pub answer: u64,
 }
 
@@ -31,7 +32,12 @@ type Maker = fn(&Registration, usize) -> Cell;
 impl Cell {
     /// The numbers of the record before the call.
     pub fn state(&self) -> State {
-        [self.journal.last, 0, 0, self.journal.entries as u64]
+        State {
+            last: self.journal.last,
+            kept_stamp: 0,
+            kept_day: 0,
+            entries: self.journal.entries,
+        }
     }
 
     /// The cell in words, for messages.
@@ -46,10 +52,10 @@ impl Cell {
 }
 
 /// The submission of a reading by its point.
-fn submission(registration: &Registration, clock: u64, reading: &Reading) -> Call {
+fn submission(registration: &Registration, clock: u64, reading: &Reading) -> Event {
     let code = registration.codes[reading.point];
     let value = reading.value(registration);
-    Call::Submit {
+    Event::Submission {
         clock,
         code,
         day: reading.day,
@@ -59,7 +65,7 @@ fn submission(registration: &Registration, clock: u64, reading: &Reading) -> Cal
 }
 
 /// A cell of a call that has to answer with a number, on a journal of these readings.
-fn cell(name: &'static str, registration: &Registration, readings: &[Reading], call: Call, answer: u64) -> Cell {
+fn cell(name: &'static str, registration: &Registration, readings: &[Reading], call: Event, answer: u64) -> Cell {
     Cell {
         name,
         registration: *registration,
@@ -95,7 +101,7 @@ fn submit_repeat(registration: &Registration, entries: usize) -> Cell {
 fn evaluate(registration: &Registration, entries: usize) -> Cell {
     let readings = data::readings(registration, entries);
     let Reading { day, quarter, .. } = readings[entries - registration.points()];
-    let call = Call::Evaluate {
+    let call = Event::Evaluation {
         day,
         quarter,
         until: data::FIRST_STAMP + entries as u64 - 1,
@@ -112,7 +118,7 @@ fn evaluate(registration: &Registration, entries: usize) -> Cell {
 /// The clear up to day 0 and the last stamp: it drops the half of the entries that are superseded.
 fn clear(registration: &Registration, entries: usize) -> Cell {
     let readings = data::corrected_readings(registration, entries);
-    let call = Call::Clear {
+    let call = Event::Clear {
         day: 0,
         stamp: data::FIRST_STAMP + entries as u64 - 1,
     };

@@ -1,5 +1,6 @@
 //! The data of the benchmark: groups, their readings over successive quarter hours, and journals of them.
 
+use runs::groups;
 use second::calendar;
 use second::registration::Registration;
 use second::service::ENTRY;
@@ -73,16 +74,9 @@ impl Journal {
     }
 }
 
-/// The code of a point: 17 digits and the check digit, for which every other digit counts three times.
+/// The code of a point.
 fn code(point: usize) -> u64 {
-    let body = 85_918_240_000_000_000 + point as u64;
-    let mut rest = body;
-    let mut sum = 0;
-    for weight in [3, 1].into_iter().cycle().take(17) {
-        sum += weight * (rest % 10);
-        rest /= 10;
-    }
-    10 * body + (10 - sum % 10) % 10
+    groups::code_of(85_918_240_000_000_000 + point as u64)
 }
 
 /// A group in which every consumer names as many producers as it may, the first of them in turn, with equal keys.

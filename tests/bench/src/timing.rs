@@ -1,7 +1,8 @@
 //! The measurement of a cell: library and second in turn, every call timed alone and its outcome compared.
 
 use crate::cells::Cell;
-use crate::servers::{Answer, Call, Server, State};
+use crate::servers::Server;
+use runs::sides::{Answer, Event};
 use second::service::ENTRY;
 use share_library::RESULT_MOST;
 use std::hint::black_box;
@@ -36,7 +37,7 @@ impl Times {
 #[derive(PartialEq)]
 struct Outcome {
     answer: Answer,
-    state: State,
+    state: share_library::State,
     written: Vec<u64>,
 }
 
@@ -61,20 +62,20 @@ impl<S: Server> Runner<S> {
 
     /// Puts back what the call changes.
     fn restore(&mut self, cell: &Cell) {
-        self.server.set_state(cell.state());
+        self.server.set_state(&cell.state());
         match cell.call {
-            Call::Submit { .. } => self.journal[ENTRY * cell.journal.entries..].fill(0),
-            Call::Evaluate { .. } => self.result.fill(UNWRITTEN),
-            Call::Clear { .. } => self.journal.copy_from_slice(&cell.journal.numbers),
+            Event::Submission { .. } => self.journal[ENTRY * cell.journal.entries..].fill(0),
+            Event::Evaluation { .. } => self.result.fill(UNWRITTEN),
+            Event::Clear { .. } => self.journal.copy_from_slice(&cell.journal.numbers),
         }
     }
 
     /// The numbers of the lists that the call may write.
     fn written(&self, cell: &Cell) -> &[u64] {
         match cell.call {
-            Call::Submit { .. } => &self.journal[ENTRY * cell.journal.entries..],
-            Call::Evaluate { .. } => &self.result,
-            Call::Clear { .. } => &self.journal,
+            Event::Submission { .. } => &self.journal[ENTRY * cell.journal.entries..],
+            Event::Evaluation { .. } => &self.result,
+            Event::Clear { .. } => &self.journal,
         }
     }
 
@@ -84,7 +85,7 @@ impl<S: Server> Runner<S> {
         let begin = Instant::now();
         let answer = self
             .server
-            .make(black_box(&cell.call), &mut self.journal, &mut self.result);
+            .make(black_box(cell.call), &mut self.journal, &mut self.result);
         let time = begin.elapsed();
         (black_box(answer), time)
     }
@@ -156,7 +157,7 @@ fn agreed(cell: &Cell, library: Outcome, second: Outcome) -> Result<Outcome, Str
             cell.words()
         ));
     }
-    if library.answer != Ok(cell.answer) {
+    if library.answer != (0, cell.answer) {
         return Err(format!(
             "{}: the answer is {:?}, not {}",
             cell.words(),

@@ -1,32 +1,13 @@
 //! Submissions, clears and evaluations for a group: mostly such as are accepted, with corrections, repeats and clocks
 //! that go back, and every kind of argument that is refused.
 
+use crate::calls::Kept;
 use crate::groups;
 use crate::random::Random;
+use crate::sides::Event;
 use second::calendar;
 use second::service::Service;
 use std::sync::OnceLock;
-
-/// A call on a service.
-#[derive(Clone, Copy, Debug)]
-pub enum Event {
-    Submission {
-        clock: u64,
-        code: u64,
-        day: u64,
-        quarter: u64,
-        value: i64,
-    },
-    Clear {
-        day: u64,
-        stamp: u64,
-    },
-    Evaluation {
-        day: u64,
-        quarter: u64,
-        until: u64,
-    },
-}
 
 /// A few days and quarters, so that readings meet: a day, those of the weeks before it, and neighbours.
 pub struct Slots {
@@ -140,7 +121,8 @@ fn stamp(random: &mut Random, service: &Service) -> u64 {
 }
 
 /// The reading of one of the journal's entries once more: with its own magnitude, or with another as a correction.
-fn again(random: &mut Random, service: &Service, journal: &[u64]) -> Option<Event> {
+fn again(random: &mut Random, kept: &Kept) -> Option<Event> {
+    let Kept { service, journal } = kept;
     let entries = service.state.entries.min(journal.len() / 3);
     let at = (entries > 0).then(|| 3 * random.place(entries))?;
     let (place, stored) = (journal[at + 1], journal[at + 2]);
@@ -206,9 +188,10 @@ fn evaluation(random: &mut Random, service: &Service, slots: &Slots) -> Event {
 }
 
 /// A call on the service and its journal as they stand.
-pub fn event(random: &mut Random, service: &Service, journal: &[u64], slots: &Slots) -> Event {
+pub fn event(random: &mut Random, kept: &Kept, slots: &Slots) -> Event {
+    let service = &kept.service;
     match random.below(20) {
-        0..=3 => again(random, service, journal).unwrap_or_else(|| submission(random, service, slots)),
+        0..=3 => again(random, kept).unwrap_or_else(|| submission(random, service, slots)),
         4..=11 => submission(random, service, slots),
         12..=13 => clear(random, service, slots),
         _ => evaluation(random, service, slots),

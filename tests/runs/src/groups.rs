@@ -3,8 +3,8 @@
 use crate::random::Random;
 use second::registration::Registration;
 
-/// The check digit of a code's first 17 digits.
-fn check_digit(front: u64) -> u64 {
+/// The registration code whose first 17 digits these are: the check digit stands behind them.
+pub fn code_of(front: u64) -> u64 {
     let mut rest = front;
     let mut sum = 0;
     let mut weight = 3;
@@ -13,13 +13,12 @@ fn check_digit(front: u64) -> u64 {
         weight = 4 - weight;
         rest /= 10;
     }
-    (10 - sum % 10) % 10
+    10 * front + (10 - sum % 10) % 10
 }
 
 /// A registration code.
 pub fn code(random: &mut Random) -> u64 {
-    let front = random.between(10_000_000_000_000_000, 99_999_999_999_999_999);
-    front * 10 + check_digit(front)
+    code_of(random.between(10_000_000_000_000_000, 99_999_999_999_999_999))
 }
 
 /// How many points a group has: mostly few, now and then as many as there may be or as may iterate.

@@ -1,7 +1,7 @@
 //! Calls through the library and through the second implementation: on services as they grow, on damaged ones, and on
 //! texts.
 
-use crate::calls::{self, Call, Kept};
+use crate::calls::{Both, Call, Kept};
 use crate::damage::{self, Break};
 use crate::events::{self, Slots};
 use crate::groups;
@@ -9,8 +9,15 @@ use crate::lines;
 use crate::random::Random;
 use crate::sheets;
 use crate::smaller;
+use second::refusal;
 use second::registration::Registration;
 use second::service::Service;
+
+/// How many rounds the tests compare.
+pub const ROUNDS: u64 = 180;
+
+/// How many calls they are to have at least, and how many of these on damaged records and journals.
+const CALLS_LEAST: (u64, u64) = (300_000, 30_000);
 
 /// A record, a journal and the calls that are made on them.
 struct Scenario {
@@ -72,7 +79,7 @@ fn result_list(random: &mut Random, registration: &Registration) -> Vec<u64> {
 
 /// An event on a service as it stands, with a result list.
 fn on(random: &mut Random, kept: &Kept, slots: &Slots) -> Call {
-    let event = events::event(random, &kept.service, &kept.journal, slots);
+    let event = events::event(random, kept, slots);
     Call::On {
         event,
         result: result_list(random, &kept.service.registration),
@@ -91,7 +98,7 @@ fn growing(random: &mut Random, count: u64) -> Scenario {
     for _ in 0..count {
         let call = on(random, &kept, &slots);
         if let Call::On { event, result } = &call {
-            calls::through_second(&mut kept, *event, &mut result.clone());
+            kept.make(*event, &mut result.clone());
         }
         made.push(call);
     }
@@ -108,7 +115,7 @@ fn grown(random: &mut Random) -> Kept {
     let mut kept = scenario.start;
     for call in &scenario.calls {
         if let Call::On { event, result } = call {
-            calls::through_second(&mut kept, *event, &mut result.clone());
+            kept.make(*event, &mut result.clone());
         }
     }
     kept
@@ -127,7 +134,7 @@ fn damaged(random: &mut Random, (_, break_rule): Break) -> Scenario {
     };
     let mut made: Vec<Call> = (0..6)
         .map(|_| Call::On {
-            event: events::event(random, &sound.service, &[], &slots),
+            event: events::event(random, &sound, &slots),
             result: vec![7; random.place(400)],
         })
         .collect();
@@ -206,11 +213,11 @@ fn texts(random: &mut Random) -> Scenario {
 
 /// Makes the calls of a scenario on both sides: their answers, or what differs.
 fn run(start: &Kept, calls: &[Call], damaged: bool) -> Result<Vec<u64>, String> {
-    let (mut library, mut second) = (start.clone(), start.clone());
+    let mut both = Both::new(start);
     let mut answers = Vec::new();
     for call in calls {
-        let answer = calls::make(&mut library, &mut second, call)?;
-        if damaged && !calls::is_damage(answer) {
+        let answer = both.make(call)?;
+        if damaged && answer != refusal::DAMAGED {
             return Err(format!("a damaged record or journal was answered by {answer}"));
         }
         answers.push(answer);
@@ -264,8 +271,14 @@ pub fn compare(seed: u64, rounds: u64) -> Result<String, String> {
             count(seed, rule.0, &damaged(random, *rule), &mut seen)?;
         }
     }
-    if let Some(missing) = (0..17).find(|&answer| rounds >= 100 && seen.answers[answer] == 0) {
+    if let Some(missing) = (0..17).find(|&answer| rounds >= ROUNDS && seen.answers[answer] == 0) {
         return Err(format!("no call was answered by {missing}"));
+    }
+    if rounds >= ROUNDS && (seen.calls < CALLS_LEAST.0 || seen.damaged < CALLS_LEAST.1) {
+        return Err(format!(
+            "{} calls and {} on damaged ones are too few",
+            seen.calls, seen.damaged
+        ));
     }
     let Seen {
         answers,

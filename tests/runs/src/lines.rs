@@ -1,7 +1,7 @@
 //! Lines of events, in their columns and not.
 
-use crate::events::Event;
 use crate::random::Random;
+use crate::sides::Event;
 use second::calendar;
 
 /// The date of a day, or some date that there is not for a day that there is not.

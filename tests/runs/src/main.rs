@@ -8,19 +8,7 @@
 //! A failure prints its seed; the same command with that seed and a count of 1 shows it again, or, of the soak, with
 //! the number of the call that failed.
 
-mod calendar;
-mod calls;
-mod damage;
-mod events;
-mod groups;
-mod library;
-mod lines;
-mod program;
-mod random;
-mod sheets;
-mod smaller;
-mod soak;
-
+use runs::{calendar, library, program, random, soak};
 use std::process::ExitCode;
 use std::time::Instant;
 
@@ -37,10 +25,10 @@ fn run(arguments: &[String]) -> Result<String, String> {
     let seed = number(arguments.get(1), 1)?;
     let count = |otherwise| number(arguments.get(2), otherwise);
     match arguments.first().map(String::as_str) {
-        Some("program") => program::compare(seed, count(2_500)?),
-        Some("library") => library::compare(seed, count(180)?),
+        Some("program") => program::compare(seed, count(program::INPUTS)?),
+        Some("library") => library::compare(seed, count(library::ROUNDS)?),
         Some("calendar") => calendar::compare(),
-        Some("soak") => soak::run(seed, count(1_000_000)?),
+        Some("soak") => soak::run(seed, count(soak::CALLS)?),
         _ => Err("usage: runs program|library|calendar|soak [SEED [COUNT]]".to_string()),
     }
 }

@@ -1,5 +1,6 @@
 //! Inputs through program `share` and through the second implementation, byte for byte.
 
+use crate::calls::Kept;
 use crate::events;
 use crate::groups;
 use crate::lines;
@@ -10,6 +11,9 @@ use second::service::Service;
 use std::io::{Read, Write};
 use std::path::{Path, PathBuf};
 use std::process::{Command, Stdio};
+
+/// How many inputs the tests compare.
+pub const INPUTS: u64 = 2_500;
 
 /// How many bytes the program reads.
 const INPUT_MOST: usize = 32768;
@@ -48,25 +52,6 @@ fn written(program: &Path, input: &[u8]) -> Vec<u8> {
     output
 }
 
-/// Makes a call on the service that the input's events have left, so that later events fit it.
-fn follow(service: &mut Service, journal: &mut [u64], event: events::Event) {
-    match event {
-        events::Event::Submission {
-            clock,
-            code,
-            day,
-            quarter,
-            value,
-        } => {
-            let _ = service.submit(journal, clock, code, day, quarter, value);
-        }
-        events::Event::Clear { day, stamp } => {
-            let _ = service.clear(journal, day, stamp);
-        }
-        events::Event::Evaluation { .. } => {}
-    }
-}
-
 /// How many bytes of events an input gets: mostly few, now and then about as many as the program reads.
 fn length(random: &mut Random) -> usize {
     match random.below(40) {
@@ -87,17 +72,21 @@ fn input(random: &mut Random) -> Vec<u8> {
     if random.one_in(8) && !text.is_empty() {
         lines::spoil(random, &mut text);
     }
-    let mut service = Service::fresh(&registration).expect("a registration that keeps every rule");
-    let mut journal = vec![0; JOURNAL];
+    let service = Service::fresh(&registration).expect("a registration that keeps every rule");
+    let mut kept = Kept {
+        service,
+        journal: vec![0; JOURNAL],
+    };
     let slots = events::slots(random);
     let most = length(random);
     while text.len() < most {
-        let event = events::event(random, &service, &journal, &slots);
+        let event = events::event(random, &kept, &slots);
         let mut line = lines::line(random, event);
         if random.one_in(15) {
             lines::spoil(random, &mut line);
         } else {
-            follow(&mut service, &mut journal, event);
+            // Later events are to fit the service that this one leaves.
+            kept.make(event, &mut []);
         }
         text.extend(line);
     }
@@ -164,7 +153,7 @@ pub fn compare(seed: u64, count: u64) -> Result<String, String> {
         }
         tally(&expected, &mut answers);
     }
-    if let Some(missing) = ANSWERS.clone().find(|&answer| count >= 2000 && answers[answer] == 0) {
+    if let Some(missing) = ANSWERS.clone().find(|&answer| count >= INPUTS && answers[answer] == 0) {
         return Err(format!("no input was answered by {missing}"));
     }
     Ok(format!(

@@ -2,14 +2,17 @@
 //! and then, each accepted answer compared with the book. Nothing may be altered by a refused call, and no call may be
 //! refused by 15.
 
-use crate::calls;
-use crate::events::Event;
 use crate::groups;
 use crate::random::Random;
+use crate::sides::{self, Event};
 use second::book::Book;
 use second::calendar;
+use second::refusal;
 use second::registration::Registration;
 use std::collections::VecDeque;
+
+/// How many calls the tests make.
+pub const CALLS: u64 = 1_000_000;
 
 /// How many entries the journal has room for.
 const ROOM: usize = 1200;
@@ -65,7 +68,7 @@ impl Soak {
         let mut random = Random::new(seed);
         let registration = registration(&mut random);
         let service =
-            share_library::Service::fresh(&calls::lent_registration(&registration)).expect("a right registration");
+            share_library::Service::fresh(&sides::lent_registration(&registration)).expect("a right registration");
         let journal: Vec<u64> = (0..3 * ROOM).map(|_| random.number()).collect();
         Soak {
             random,
@@ -188,7 +191,7 @@ impl Soak {
     /// A refused call altered nothing, and nothing was damaged.
     fn refused(&mut self, answer: u64) -> Result<(), String> {
         self.seen.refused[answer as usize] += 1;
-        if calls::is_damage(answer) {
+        if answer == refusal::DAMAGED {
             return Err("a call was refused by 15".to_string());
         }
         if self.service != self.service_before || self.journal != self.journal_before {
@@ -260,7 +263,7 @@ impl Soak {
         self.tick();
         let event = self.event();
         let mut result = vec![0; self.size];
-        let (answer, number) = calls::through_library(&mut self.service, &mut self.journal, event, &mut result);
+        let (answer, number) = sides::through_library(&mut self.service, &mut self.journal, event, &mut result);
         self.seen.calls += 1;
         let judged = if answer == 0 {
             self.accepted(event, number, &result)
@@ -296,7 +299,7 @@ pub fn run(seed: u64, count: u64) -> Result<String, String> {
     for _ in 0..count {
         soak.step().map_err(|why| format!("seed {seed}: {why}"))?;
     }
-    if count >= 1_000_000 && !soak.enough() {
+    if count >= CALLS && !soak.enough() {
         return Err(format!("seed {seed}: too little was seen: {:?}", soak.seen));
     }
     let (day, last) = (soak.today, soak.service.state.last);

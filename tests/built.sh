@@ -1,0 +1,12 @@
+#!/usr/bin/env bash
+# Proves and builds program `share` and the static library, where one is not there yet or a crate has changed since.
+set -u
+cd "$(dirname "$0")/.." || exit 1
+
+# Whether an output stands and no file of a crate is newer.
+stands() {
+    [ -e "$1" ] && [ -z "$(find crates crates.txt \( -name '*.rt' -o -name '*.antt' -o -name crates.txt \) -newer "$1" -print -quit)" ]
+}
+
+stands target/bin/share || rt check share || exit 1
+stands target/staticlib/libshare_c.a || rt staticlib share_c || exit 1
