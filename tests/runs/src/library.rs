@@ -109,7 +109,7 @@ fn growing(random: &mut Random, count: u64) -> Scenario {
     }
 }
 
-/// A service that has grown, with its entries, and the slots of its readings.
+/// A service that has grown, with its entries.
 fn grown(random: &mut Random) -> Kept {
     let scenario = growing(random, 15);
     let mut kept = scenario.start;
@@ -121,23 +121,30 @@ fn grown(random: &mut Random) -> Kept {
     kept
 }
 
-/// Calls on a service with one rule broken; where it is one of the registration, it is written and made a service of.
-fn damaged(random: &mut Random, (_, break_rule): Break) -> Scenario {
-    let mut kept = grown(random);
-    while !break_rule(random, &mut kept) {
-        kept = grown(random);
+/// A service that has grown, and the same with one rule broken.
+fn broken(random: &mut Random, (_, break_rule): Break) -> (Kept, Kept) {
+    loop {
+        let sound = grown(random);
+        let mut kept = sound.clone();
+        if break_rule(random, &mut kept) {
+            return (sound, kept);
+        }
     }
-    let slots = events::slots(random);
-    let sound = Kept {
-        service: Service::fresh(&groups::registration(random)).expect("sound"),
-        journal: Vec::new(),
-    };
-    let mut made: Vec<Call> = (0..6)
-        .map(|_| Call::On {
-            event: events::event(random, &sound, &slots),
+}
+
+/// Calls on a service with one rule broken, by arguments that suit the sound one and by others; where the rule is one
+/// of the registration, this is written and made a service of.
+fn damaged(random: &mut Random, rule: Break) -> Scenario {
+    let (sound, kept) = broken(random, rule);
+    let (slots, other) = (events::slots(random), fresh(random));
+    let mut made = Vec::new();
+    for suits in [&sound, &sound, &sound, &sound, &other, &other] {
+        let event = events::event(random, suits, &slots);
+        made.push(Call::On {
+            event,
             result: vec![7; random.place(400)],
-        })
-        .collect();
+        });
+    }
     let registration = Box::new(kept.service.registration);
     if registration.damaged() {
         made.push(Call::Fresh {
