@@ -1,6 +1,5 @@
 //! Records and journals with one rule broken: of the registration, of the record's numbers, of the journal's entries.
-//! Where one number can break a rule alone it does; a group without producers necessarily names some that are not
-//! there.
+//! Each way breaks its rule alone, but for those of `WITH_OTHERS`.
 
 use crate::calls::Kept;
 use crate::groups;
@@ -16,6 +15,33 @@ const STAMP_MOST: u64 = 999_999_999_999;
 
 /// How many days the calendar has.
 const DAYS: u64 = 27759;
+
+/// No producer is left, so those that are named are not there.
+const NO_PRODUCER: &str = "no producer";
+
+/// A number of points that the lists of the registration have no room for.
+const COUNT_AT_THE_END: &str = "number of points at the end of its range";
+
+/// A key that is too great is too great for the sum of keys as well.
+const KEY_ABOVE: &str = "key above 10000";
+
+/// A place so great that its day may be any.
+const PLACE_AT_THE_END: &str = "place at the end of its range";
+
+/// The ways that cannot break their rule alone.
+pub const WITH_OTHERS: [&str; 4] = [NO_PRODUCER, COUNT_AT_THE_END, KEY_ABOVE, PLACE_AT_THE_END];
+
+/// A group of one producer and 63 consumers, each of which names it with the same key.
+fn largest(random: &mut Random) -> Registration {
+    let mut made = Registration::zeros();
+    (made.producers, made.consumers) = (1, 63);
+    made.codes = std::array::from_fn(|_| groups::code(random));
+    for consumer in 0..63 {
+        made.counts[consumer] = 1;
+        (made.sources[5 * consumer], made.keys[5 * consumer]) = (1, 100);
+    }
+    made
+}
 
 /// One of the points.
 fn point(random: &mut Random, registration: &Registration) -> usize {
@@ -48,7 +74,7 @@ fn set<T>(list: &mut [T], at: usize, number: T) -> bool {
 
 /// Rules on the number of points and on the iteration.
 const COUNTS: &[Break] = &[
-    ("no producer", |_, kept| {
+    (NO_PRODUCER, |_, kept| {
         kept.service.registration.producers = 0;
         true
     }),
@@ -61,15 +87,24 @@ const COUNTS: &[Break] = &[
         kept.service.state.entries = 0;
         true
     }),
-    ("more than 64 points", |random, kept| {
+    ("65 points", |random, kept| {
+        kept.service.registration = largest(random);
         let registration = &mut kept.service.registration;
-        let most = usize::MAX;
-        registration.consumers = random.pick(&[65 - registration.producers, 64, 65, most, most / 2 + 1]);
+        (registration.consumers, registration.counts[63]) = (64, 1);
+        (registration.sources[315], registration.keys[315]) = (1, 100);
+        kept.service.state.entries = 0;
         true
     }),
-    ("more than 64 producers", |random, kept| {
-        kept.service.registration.producers = random.pick(&[64, 65, 320, usize::MAX, usize::MAX / 2 + 1]);
-        true
+    (COUNT_AT_THE_END, |random, kept| {
+        let registration = &mut kept.service.registration;
+        let count = random.pick(&[64, 65, 320, usize::MAX, usize::MAX / 2 + 1]);
+        let side = if random.one_in(2) {
+            &mut registration.producers
+        } else {
+            &mut registration.consumers
+        };
+        *side = count;
+        registration.points() > 64
     }),
     ("iteration above 1", |random, kept| {
         kept.service.registration.iteration = random.pick(&[2, 3, 255]);
@@ -87,15 +122,9 @@ const POINTS: &[Break] = &[
     }),
     ("code of other than 18 digits", |random, kept| {
         let at = point(random, &kept.service.registration);
-        let wrong = [
-            0,
-            17,
-            99_999_999_999_999_999,
-            10_000_000_000_000_000,
-            1_000_000_000_000_000_009,
-            u64::MAX,
-        ];
-        set(&mut kept.service.registration.codes, at, random.pick(&wrong))
+        let short = groups::code_of(random.between(1_000_000_000_000_000, 9_999_999_999_999_999));
+        let long = groups::code_of(random.between(100_000_000_000_000_000, 999_999_999_999_999_999));
+        set(&mut kept.service.registration.codes, at, random.pick(&[0, short, long]))
     }),
     ("code twice", |random, kept| {
         let registration = &mut kept.service.registration;
@@ -136,9 +165,19 @@ const POINTS: &[Break] = &[
 
 /// Rules on the producers named and on keys.
 const PAIRS: &[Break] = &[
-    ("count outside 1 to 5", |random, kept| {
-        let at = random.place(kept.service.registration.consumers);
-        set(&mut kept.service.registration.counts, at, random.pick(&[0, 6, 7, 255]))
+    ("no producer named", |random, kept| {
+        let registration = &mut kept.service.registration;
+        let consumer = random.place(registration.consumers);
+        registration.counts[consumer] = 0;
+        registration.sources[5 * consumer..][..5].fill(0);
+        registration.keys[5 * consumer..][..5].fill(0);
+        true
+    }),
+    ("more than 5 producers named", |random, kept| {
+        let count = &mut kept.service.registration.counts[random.place(kept.service.registration.consumers)];
+        let all_named = *count == 5;
+        *count = random.pick(&[6, 7, 255]);
+        all_named
     }),
     ("producer unknown", |random, kept| {
         let registration = &mut kept.service.registration;
@@ -150,16 +189,19 @@ const PAIRS: &[Break] = &[
         let registration = &mut kept.service.registration;
         let consumer = random.place(registration.consumers);
         let (first, second) = (5 * consumer, 5 * consumer + 1);
+        // The producer's keys sum to what they did.
         registration.sources[second] = registration.sources[first];
-        registration.counts[consumer] > 1
+        registration.keys[second] = 1;
+        registration.keys[first] -= 1;
+        registration.counts[consumer] > 1 && registration.keys[first] > 0
     }),
-    ("key outside 1 to 10000", |random, kept| {
+    ("key 0", |random, kept| {
         let place = pair(random, &kept.service.registration);
-        set(
-            &mut kept.service.registration.keys,
-            place,
-            random.pick(&[0, 10001, 65535]),
-        )
+        set(&mut kept.service.registration.keys, place, 0)
+    }),
+    (KEY_ABOVE, |random, kept| {
+        let place = pair(random, &kept.service.registration);
+        set(&mut kept.service.registration.keys, place, random.pick(&[10001, 65535]))
     }),
     ("keys above 10000", |random, kept| {
         let registration = &mut kept.service.registration;
@@ -233,10 +275,13 @@ fn replace(
 
 /// Rules on the journal's entries.
 const ENTRIES: &[Break] = &[
-    ("stamp outside 1 to the last", |random, kept| {
-        replace(random, kept, 0, |random, kept, _| {
-            Some(random.pick(&[0, kept.service.state.last + 1, u64::MAX]))
-        })
+    ("stamp 0", |_, kept| {
+        let any = kept.service.state.entries > 0;
+        any && set(&mut kept.journal, 0, 0)
+    }),
+    ("stamp above the last", |random, kept| {
+        let State { entries, last, .. } = kept.service.state;
+        entries > 0 && set(&mut kept.journal, 3 * entries - 3, random.pick(&[last + 1, u64::MAX]))
     }),
     ("stamps that do not rise", |random, kept| {
         let Some(at) = entry(random, kept) else { return false };
@@ -247,12 +292,13 @@ const ENTRIES: &[Break] = &[
     ("entry of a wrong point", |random, kept| {
         replace(random, kept, 1, |random, kept, place| {
             let points = kept.service.registration.points() as u64;
-            let point = random.pick(&[points, points + 1, 64, 1 << 32]);
-            Some(random.pick(&[
-                (point.max(points) * DAYS * 100) + place % (DAYS * 100),
-                u64::MAX,
-                u64::MAX - 99,
-            ]))
+            let point = random.pick(&[points, points + 1, 1 << 32]);
+            Some(point * DAYS * 100 + place % (DAYS * 100))
+        })
+    }),
+    (PLACE_AT_THE_END, |random, kept| {
+        replace(random, kept, 1, |random, _, _| {
+            Some(random.pick(&[u64::MAX, u64::MAX - 99, 1 << 63]))
         })
     }),
     ("entry of a day below K", |random, kept| {
@@ -293,5 +339,136 @@ pub fn to_the_ends(random: &mut Random, kept: &mut Kept) {
             let earliest = (0..state.entries).map(|i| kept.journal[3 * i + 1] / 100 % DAYS).min();
             state.kept_day = earliest.unwrap_or(0);
         }
+    }
+}
+
+#[cfg(test)]
+mod tests {
+    use super::*;
+    use crate::library;
+    use second::registration::code_right;
+
+    /// The numbers of a registration that are used: how many points, and which places of pairs.
+    fn used(registration: &Registration) -> (usize, Vec<usize>) {
+        let consumers = 0..registration.consumers.min(64);
+        let places = consumers.flat_map(|c| (0..registration.counts[c].min(5) as usize).map(move |p| 5 * c + p));
+        (registration.points().min(64), places.collect())
+    }
+
+    /// The rules on points and keys that are broken.
+    fn of_registration(registration: &Registration) -> Vec<&'static str> {
+        let Registration {
+            producers,
+            consumers,
+            iteration,
+            codes,
+            statuses,
+            counts,
+            sources,
+            keys,
+        } = registration;
+        let (points, places) = used(registration);
+        let key_sum = |source: u8| {
+            places
+                .iter()
+                .filter(|&&at| sources[at] == source)
+                .map(|&at| keys[at] as u64)
+                .sum()
+        };
+        let twice = |&at: &usize| (at / 5 * 5..at).any(|before| sources[before] == sources[at] && sources[at] > 0);
+        let idle = |at: &usize| !places.contains(at);
+        let rules = [
+            (
+                "points",
+                *producers == 0 || *consumers == 0 || registration.points() > 64,
+            ),
+            ("iteration", *iteration > 1),
+            ("code", codes[..points].iter().any(|&code| !code_right(code))),
+            ("code twice", (0..points).any(|at| codes[..at].contains(&codes[at]))),
+            ("status", statuses[..points].iter().any(|&status| status > 3)),
+            (
+                "count",
+                counts[..(*consumers).min(64)]
+                    .iter()
+                    .any(|count| !(1..=5).contains(count)),
+            ),
+            (
+                "producer",
+                places
+                    .iter()
+                    .any(|&at| sources[at] == 0 || sources[at] as usize > *producers),
+            ),
+            ("producer twice", places.iter().any(twice)),
+            ("key", places.iter().any(|&at| !(1..=10000).contains(&keys[at]))),
+            (
+                "keys",
+                (1..=64).any(|source| {
+                    let sum: u64 = key_sum(source);
+                    sum > 10000
+                }),
+            ),
+            ("unused code", codes[points..].iter().any(|&code| code > 0)),
+            ("unused status", statuses[points..].iter().any(|&status| status > 0)),
+            (
+                "unused count",
+                counts[(*consumers).min(64)..].iter().any(|&count| count > 0),
+            ),
+            ("unused source", (0..320).filter(idle).any(|at| sources[at] > 0)),
+            ("unused key", (0..320).filter(idle).any(|at| keys[at] > 0)),
+        ];
+        rules.into_iter().filter(|rule| rule.1).map(|rule| rule.0).collect()
+    }
+
+    /// The rules on the record's numbers and on the entries that are broken.
+    fn of_journal(kept: &Kept) -> Vec<&'static str> {
+        let State {
+            last,
+            kept_stamp,
+            kept_day,
+            entries,
+        } = kept.service.state;
+        let room = kept.journal.len() / 3;
+        let held: Vec<&[u64]> = kept
+            .journal
+            .chunks_exact(3)
+            .take(if entries > room { 0 } else { entries })
+            .collect();
+        let stamps: Vec<u64> = held.iter().map(|entry| entry[0]).collect();
+        let points = kept.service.registration.points() as u64;
+        let day = |entry: &[u64]| entry[1] / 100 % DAYS;
+        let lacks = |entry: &&[u64]| second::calendar::quarters(day(entry)).unwrap() < entry[1] % 100 + 1;
+        let rules = [
+            ("P", kept_stamp > last),
+            ("last", last > STAMP_MOST),
+            ("K", kept_day >= DAYS),
+            ("room", entries > room),
+            ("stamp", stamps.iter().any(|stamp| !(1..=last).contains(stamp))),
+            ("rising", stamps.windows(2).any(|two| two[0] >= two[1])),
+            ("point", held.iter().any(|entry| entry[1] / 100 / DAYS >= points)),
+            ("day", held.iter().any(|entry| day(entry) < kept_day)),
+            ("quarter", held.iter().any(lacks)),
+            ("magnitude", held.iter().any(|entry| entry[2] > 99_999_999)),
+        ];
+        rules.into_iter().filter(|rule| rule.1).map(|rule| rule.0).collect()
+    }
+
+    #[test]
+    fn each_way_breaks_one_rule() {
+        let mut rules = std::collections::BTreeSet::new();
+        for (seed, rule) in (0..40).flat_map(|seed| breaks().into_iter().map(move |rule| (seed, rule))) {
+            let (sound, kept) = library::broken(&mut Random::new(seed), rule);
+            assert_eq!(
+                [of_registration(&sound.service.registration), of_journal(&sound)].concat(),
+                [""; 0]
+            );
+            let broken = [of_registration(&kept.service.registration), of_journal(&kept)].concat();
+            assert!(!broken.is_empty(), "{} breaks nothing", rule.0);
+            if !WITH_OTHERS.contains(&rule.0) {
+                assert_eq!(broken.len(), 1, "{} breaks {broken:?}", rule.0);
+                rules.extend(broken);
+            }
+        }
+        // 15 rules of the registration, 10 of record and journal: each is broken alone by some way.
+        assert_eq!(rules.len(), 25, "{rules:?}");
     }
 }

@@ -122,7 +122,7 @@ fn grown(random: &mut Random) -> Kept {
 }
 
 /// A service that has grown, and the same with one rule broken.
-fn broken(random: &mut Random, (_, break_rule): Break) -> (Kept, Kept) {
+pub fn broken(random: &mut Random, (_, break_rule): Break) -> (Kept, Kept) {
     loop {
         let sound = grown(random);
         let mut kept = sound.clone();
@@ -293,8 +293,8 @@ pub fn compare(seed: u64, rounds: u64) -> Result<String, String> {
         damaged,
     } = seen;
     Ok(format!(
-        "{calls} calls from seed {seed} on, no difference; {damaged} of them on damaged records and journals, by {} \
-         rules; answers 0 to 16: {answers:?}",
+        "{calls} calls from seed {seed} on, no difference; {damaged} of them on records and journals damaged in {} \
+         ways; answers 0 to 16: {answers:?}",
         breaks.len()
     ))
 }
