@@ -70,18 +70,31 @@ struct share_registration {
     uint16_t keys[320];
 };
 
-/* What changes of a record: the last stamp given, the kept stamp and the kept day of the last clear, how many entries the journal has. */
-struct share_state {
-    uint64_t last;
+/* What is kept of a group beside its registration: the kept stamp and the kept day of the last clear, how many entries the journal has. */
+struct share_numbers {
     uint64_t kept_stamp;
     uint64_t kept_day;
     size_t entries;
+};
+
+/* What changes of a record: the last stamp given, and the group's numbers. */
+struct share_state {
+    uint64_t last;
+    struct share_numbers numbers;
 };
 
 /* The record of a service: made by share_fresh, altered by share_submit and share_clear. It may be copied and stored as it is. */
 struct share_service {
     struct share_registration registration;
     struct share_state state;
+};
+
+/* What a submission brings: the code of a point, a day and its quarter, and the value, positive for a supply and negative for a withdrawal. */
+struct share_measurement {
+    uint64_t code;
+    uint64_t day;
+    uint64_t quarter;
+    int64_t value;
 };
 
 /* The answers: first the number of the answer, then what the call gives, zeros where it is refused. */
@@ -132,13 +145,12 @@ struct share_write_answer share_write(struct share_registration registration, ui
 struct share_fresh_answer share_fresh(struct share_registration registration);
 
 /*
- * Submits a reading: the code of its point, its day and quarter, and its value, positive for a supply and negative for a withdrawal. Gives
- * the reading's stamp: where the newest reading for that code, day and quarter has the same value nothing is stored, and the stamp is that
- * reading's; else an entry is stored, with the greater of the clock and the last stamp + 1. Record and journal are altered in place.
- * Refused by 15, 8, 9, 11, 10, 13, 14, in this order.
+ * Submits a measurement. Gives the stamp of its reading: where the newest reading for its code, day and quarter has the same value nothing
+ * is stored, and the stamp is that reading's; else an entry is stored, with the greater of the clock and the last stamp + 1. Record and
+ * journal are altered in place. Refused by 15, 8, 9, 11, 10, 13, 14, in this order.
  */
 struct share_submit_answer share_submit(struct share_service *service, uint64_t *journal, size_t journal_length, uint64_t clock,
-                                        uint64_t code, uint64_t day, uint64_t quarter, int64_t value);
+                                        struct share_measurement measurement);
 
 /*
  * Clears the journal: entries of days below `day` are dropped, and so are those up to `stamp` that a later one up to `stamp` supersedes. Day

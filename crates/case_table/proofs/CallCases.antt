@@ -38,8 +38,8 @@ use Rattle.service.specs.Group.{Call, Submission, Clear, Evaluation, Seen}
 use Rattle.service.specs.Refusals.{damaged, submissionVerdict, clearVerdict, earliest, evaluationVerdict}
 use Rattle.service.specs.Calls.{submitted, cleared, evaluated, step}
 use Rattle.service.specs.Record.{callOn, freshService, zeroService}
-use Rattle.service.specs.Lists.{run}
-use Rattle.service.specs.Demand3.{Kept, seenOf}
+use Rattle.demand3.specs.Lists.{run}
+use Rattle.demand3.specs.Demand3.{RecordAndJournal, seenOf}
 use Rattle.service.specs.Laws.{lentBy}
 use Rattle.case_table.proofs.Same.{same}
 
@@ -76,14 +76,14 @@ abbrev list : Registration
 list = group 0 1 0 6000
 
 -- a fresh service and a journal
-abbrev fresh : Registration → List ℕ → Kept
+abbrev fresh : Registration → List ℕ → RecordAndJournal
 fresh r journal = record { service = freshService r; journal = journal }
 
 -- a record with this registration, last stamp, kept stamp, kept day and entry count, and a journal
-abbrev held : Registration → (last P K count : ℕ) → List ℕ → Kept
+abbrev held : Registration → (last P K count : ℕ) → List ℕ → RecordAndJournal
 held r last P K count journal =
     record {
-      service = record { registration = r; state = record { last = last; «kept_stamp» = P; «kept_day» = K; entries = count } };
+      service = record { registration = r; state = record { last = last; numbers = record { «kept_stamp» = P; «kept_day» = K; entries = count } } };
       journal = journal;
     }
 
@@ -96,7 +96,7 @@ minus n = negℤ (pos n)
 
 -- the calls: an evaluation is lent six numbers, of which a result in the group of case LIST takes five
 abbrev submit : (clock code day quarter : ℕ) → ℤ → Call
-submit = Submission
+submit clock code day quarter value = Submission clock (record { code = code; day = day; quarter = quarter; value = value })
 
 abbrev clear : (day stamp : ℕ) → Call
 clear = Clear
@@ -130,21 +130,21 @@ call refused n = record { call = call; answer = n; number = 0; result = lentBy c
 -- kept day and entry count, and the journal
 record Row : Type 0 where
   shows : String
-  start : Kept
+  start : RecordAndJournal
   lines : List Line
   state : List ℕ
   journal : List ℕ
 
 -- a row, its parts in this order
-abbrev row : String → Kept → List Line → List ℕ → List ℕ → Row
+abbrev row : String → RecordAndJournal → List Line → List ℕ → List ℕ → Row
 row shows start lines state journal = record { shows = shows; start = start; lines = lines; state = state; journal = journal }
 
 -- the numbers of a record's changing part
 abbrev numbersIn : State → List ℕ
-numbersIn s = s .last ∷ s .«kept_stamp» ∷ s .«kept_day» ∷ s .entries ∷ []
+numbersIn s = s .last ∷ s .numbers .«kept_stamp» ∷ s .numbers .«kept_day» ∷ s .numbers .entries ∷ []
 
 -- a row of a damaged record or journal: an evaluation is refused by 15, and nothing is altered
-abbrev damagedRow : String → Kept → Row
+abbrev damagedRow : String → RecordAndJournal → Row
 damagedRow shows start = row shows start (evaluate 38 1 5 refused 15 ∷ []) (numbersIn (start .service .state)) (start .journal)
 
 -- the calls of case LIST, and evaluations as of 1001, 1000 and 1003

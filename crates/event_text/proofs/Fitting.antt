@@ -59,8 +59,8 @@ evaluation-fits r seen small =
 -- the reply to an event, by the call that it asks for
 pub reply-fits : (s : Service) (j : List ℕ) (event : Event) (o : Option Call) → length (replyWith s j event o .bytes) ≤ answerMost
 reply-fits s j event none = refusal-fits event
-reply-fits s j event (some (Submit clock code day quarter value)) =
-    let seen = callOn s j (Submit clock code day quarter value) .seen in
+reply-fits s j event (some (Submit clock m)) =
+    let seen = callOn s j (Submit clock m) .seen in
     answer-fits (answerOf (seen .verdict)) (seen .number)
 reply-fits s j event (some (ClearUp day stamp)) =
     let seen = callOn s j (ClearUp day stamp) .seen in

@@ -77,9 +77,9 @@ result-fits r numbers s within =
 
 -- every call, whatever the record, on a journal of the program's size
 pub call-fits : NumbersFit
-call-fits s j (Submission clock code day quarter value) e =
-    fits-A _ _ (answer-small (callOn s j (Submission clock code day quarter value) .seen .verdict))
-    (omega (arith, stamp-returned s j clock code day quarter value))
+call-fits s j (Submission clock m) e =
+    fits-A _ _ (answer-small (callOn s j (Submission clock m) .seen .verdict))
+    (omega (arith, stamp-returned s j clock m))
 call-fits s j (Clear day stamp) e =
     fits-A _ _ (answer-small (callOn s j (Clear day stamp) .seen .verdict)) (omega (arith, dropped-returned s j day stamp))
 call-fits s j (Evaluation day quarter T lent) e = (

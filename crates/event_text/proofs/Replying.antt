@@ -34,7 +34,7 @@ use Rattle.event_reader.specs.declared.Event.the-variants.{Submission, Clear, E
 use Rattle.event_writer.specs.Answers.{lineA, lineR, linesOfResult}
 use Rattle.event_writer.proofs.Lengths.{length-of-rounds}
 use Rattle.event_text.specs.declared.Answered.{Answered}
-use Rattle.event_text.specs.Replies.{onDay, callOf, refusalText, answerText, resultText, evaluationText, callText, resultList, replyOf}
+use Rattle.event_text.specs.Replies.{onDay, measured, callOf, refusalText, answerText, resultText, evaluationText, callText, resultList, replyOf}
 use Rattle.event_text.specs.Contracts.{Replies}
 use Rattle.service.proofs.Evaluating.{evaluation-alters-nothing}
 
@@ -121,15 +121,15 @@ seenAt s j day quarter T = callOn s j (Evaluate day quarter T resultList) .seen
 module _ (s : Service) (j : List ℕ) {d : Day} (date : ℕ) {day : ℕ} (told : d ≡ dayOf date) (is : d ≡ Is day)
     {n : ℕ} {buffer buffer′ : List ℕ} {answered : Answered} where
   pub replies-submission : (clock code quarter : ℕ) (value : ℤ) (state : State) (submitted : Submitted) {answer : ℕ} {j′ : List ℕ} → SFits w64 value
-      → Submits s j clock code day quarter (toZ w64 (ofZ w64 value)) (withState s state) submitted j′
+      → Submits s j clock (measured code quarter (toZ w64 (ofZ w64 value)) day) (withState s state) submitted j′
       → answer ≡ answerOf (submitted .verdict) → Put 0 (lineA answer (submitted .stamp)) buffer buffer′ n → answered ≡ answeredBy state n
       → Replies Accepted (replyOf s j (Submission clock code date quarter value)) s buffer answered j′ buffer′
   replies-submission clock code quarter value state submitted {j′} f t a p k =
-      let made : Submits s j clock code day quarter value (withState s state) submitted j′ = rw (toZ-ofZ w64 value f) at t in
-      let call = Submit clock code day quarter value in
+      let made : Submits s j clock (measured code quarter value day) (withState s state) submitted j′ = rw (toZ-ofZ w64 value f) at t in
+      let call = Submit clock (measured code quarter value day) in
       let put : Put 0 (answerText (callOn s j call .seen)) buffer buffer′ n = rw (a, made .answers) at p in
       replies-call s j (Submission clock code date quarter value) call state
-      (call-on date (λ (day : ℕ). Submit clock code day quarter value) told is) (made .service) (made .journal) put k
+      (call-on date (λ (day : ℕ). Submit clock (measured code quarter value day)) told is) (made .service) (made .journal) put k
 
   pub replies-clear : (stamp : ℕ) (state : State) (cleared : Cleared) {answer : ℕ} {j′ : List ℕ} → Clears s j day stamp (withState s state) cleared j′
       → answer ≡ answerOf (cleared .verdict) → Put 0 (lineA answer (cleared .dropped)) buffer buffer′ n → answered ≡ answeredBy state n

@@ -17,8 +17,8 @@ use Rattle.service.specs.declared.Service.{Service}
 use Rattle.service.specs.declared.Evaluated.{Evaluated}
 use Rattle.service.specs.Group.{Group, Evaluation, Seen, After}
 use Rattle.service.specs.Refusals.{evaluationVerdict}
-use Rattle.service.specs.Calls.{evaluated, unless, step}
-use Rattle.service.specs.Record.{groupIn, callOn}
+use Rattle.service.specs.Calls.{evaluated, whenAccepted, step}
+use Rattle.service.specs.Record.{groupOf, callOn}
 use Rattle.service.specs.Contracts.{Evaluates}
 use Rattle.service.proofs.ReadAgain.{through}
 use Rattle.service.proofs.Looking.{never-accepted}
@@ -50,19 +50,19 @@ undamaged-small r e =
     }
 
 -- a call is seen to be accepted only where that is its verdict
-unless-accepted : (verdict : Verdict) (last : ℕ) (G : Group) (lent : List ℕ) (after : After)
-    → unless verdict last G lent after .seen .verdict ≡ Accepted → verdict ≡ Accepted
-unless-accepted Accepted last G lent after e = refl
-unless-accepted (Refused refusal) last G lent after e = never-accepted refusal e
+when-accepted : (verdict : Verdict) (last : ℕ) (G : Group) (lent : List ℕ) (after : After)
+    → whenAccepted verdict last G lent after .seen .verdict ≡ Accepted → verdict ≡ Accepted
+when-accepted Accepted last G lent after e = refl
+when-accepted (Refused refusal) last G lent after e = never-accepted refusal e
 
 module _ (s : Service) (j : List ℕ) (day quarter T : ℕ) (lent : List ℕ) where
   -- an accepted evaluation has passed all tests
   pub evaluation-passed : callOn s j (Evaluation day quarter T lent) .seen .verdict ≡ Accepted
-      → evaluationVerdict (s .state .last) (groupIn s j) day quarter T lent ≡ Accepted
+      → evaluationVerdict (s .state .last) (groupOf s j) day quarter T lent ≡ Accepted
   unfolding step
   evaluation-passed e =
-      unless-accepted (evaluationVerdict (s .state .last) (groupIn s j) day quarter T lent) (s .state .last) (groupIn s j) lent
-      (evaluated (s .state .last) (groupIn s j) day quarter T lent)
+      when-accepted (evaluationVerdict (s .state .last) (groupOf s j) day quarter T lent) (s .state .last) (groupOf s j) lent
+      (evaluated (s .state .last) (groupOf s j) day quarter T lent)
       (ap (λ (seen : Seen). seen .verdict) (sym (through s j (Evaluation day quarter T lent) .seen)) ∙ e)
 
   -- so its registration is not damaged

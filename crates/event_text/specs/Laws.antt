@@ -17,7 +17,7 @@ use Rattle.allocation.specs.Result.{pairsIn}
 use Rattle.service.specs.declared.Service.{Service}
 use Rattle.service.specs.Group.{Call, Submission, Clear, Evaluation, Seen}
 use Rattle.service.specs.Record.{callOn}
-use Rattle.service.specs.Demand3.{seenOf}
+use Rattle.demand3.specs.Demand3.{seenOf}
 use Rattle.event_reader.specs.declared.Event.{Event}
 use Rattle.event_reader.specs.Events.{eventIn}
 use Rattle.event_writer.specs.Answers.{widthsA, widthsR, widthsS, widthsOfRemaining}
@@ -96,7 +96,7 @@ pub record ResultFits (r : Registration) (numbers : List ℕ) : Type 0 where
 
 -- each number of the answer to a call fits its column
 abbrev pub CallFits : Registration → Call → Seen → Type 0
-CallFits r (Submission clock code day quarter value) seen = fitting widthsA (answerOf (seen .verdict) ∷ seen .number ∷ []) ≡ true
+CallFits r (Submission clock m) seen = fitting widthsA (answerOf (seen .verdict) ∷ seen .number ∷ []) ≡ true
 CallFits r (Clear day stamp) seen = fitting widthsA (answerOf (seen .verdict) ∷ seen .number ∷ []) ≡ true
 CallFits r (Evaluation day quarter T lent) seen =
     (fitting widthsR (answerOf (seen .verdict) ∷ seen .number ∷ []) ≡ true) × (seen .verdict ≡ Accepted → ResultFits r (seen .result))

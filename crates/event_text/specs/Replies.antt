@@ -2,6 +2,7 @@
 use Prim.Native.Nat.{ℕ}
 use mathlib.Core.List.{List, [], _++_}
 use mathlib.Core.Option.{Option, none, some}
+use lib.IntN.{ℤ}
 use lib.ListN.{replicate}
 use Rattle.answers.specs.declared.Refusal.the-variants.{NotInColumns, NoSuchDay}
 use Rattle.answers.specs.declared.Verdict.{Verdict}
@@ -11,6 +12,7 @@ use Rattle.calendar.specs.declared.Day.{Day}
 use Rattle.calendar.specs.declared.Day.the-variants.{Is, Missing}
 use Rattle.calendar.specs.Dates.{dayOf}
 use Rattle.registration.specs.declared.Registration.{Registration}
+use Rattle.values.specs.declared.Measurement.{Measurement}
 use Rattle.service.specs.declared.Service.{Service}
 use Rattle.service.specs.Group.{Call, Seen}
 use Rattle.service.specs.Group.{Submission as Submit, Clear as ClearUp, Evaluation as Evaluate}
@@ -35,9 +37,13 @@ abbrev pub onDay : Day → (ℕ → Call) → Option Call
 onDay Missing call = none
 onDay (Is day) call = some (call day)
 
+-- what an M line measures, on the day of its date
+abbrev pub measured : (code quarter : ℕ) → ℤ → (day : ℕ) → Measurement
+measured code quarter value day = record { code = code; day = day; quarter = quarter; value = value }
+
 -- the call that a line asks for; a malformed line asks for none, and neither does one whose date does not exist
 abbrev pub callOf : Event → Option Call
-callOf (Submission clock code date quarter value) = onDay (dayOf date) (λ day. Submit clock code day quarter value)
+callOf (Submission clock code date quarter value) = onDay (dayOf date) (λ day. Submit clock (measured code quarter value day))
 callOf (Clear date stamp) = onDay (dayOf date) (λ day. ClearUp day stamp)
 callOf (Evaluation date quarter T) = onDay (dayOf date) (λ day. Evaluate day quarter T resultList)
 callOf Malformed = none
@@ -66,7 +72,7 @@ evaluationText r seen = lineR (answerOf (seen .verdict)) (seen .number) ++ resul
 
 -- the answer to a call
 abbrev pub callText : Registration → Call → Seen → List ℕ
-callText r (Submit clock code day quarter value) seen = answerText seen
+callText r (Submit clock m) seen = answerText seen
 callText r (ClearUp day stamp) seen = answerText seen
 callText r (Evaluate day quarter T lent) seen = evaluationText r seen
 

@@ -9,13 +9,14 @@ ghost use Rattle.lists.specs.Place.{Put};
 ghost use Rattle.event_reader.specs.declared.Event.the-variants.{Submission as SubmissionLine, Clear as ClearLine, Evaluation as EvaluationLine};
 ghost use Rattle.event_writer.specs.Answers.{lineA};
 ghost use Rattle.event_text.specs.Replies.{replyOf};
-ghost use Rattle.event_text.specs.Contracts.{Replies};
+ghost use Rattle.event_text.specs.Contracts.{answerMost, Replies};
 use super::Answered;
 use answers::Refusal;
 use answers::Verdict;
 use calendar::Day;
 use service::Service;
 use service::State;
+use values::Measurement;
 
 // The most numbers that a result has: 5 for each of 63 consumers, and one for each of 64 points.
 const RESULT_MOST: usize = 379;
@@ -59,13 +60,19 @@ pub fn submission(
     value: i64,
     out: &mut [u8],
 ) -> Answered
-    requires { ⌜ 7332 ≤ length (now out) ⌝ }
+    requires { ⌜ answerMost ≤ length (now out) ⌝ }
     ensures { λ r. ⌜ Replies AcceptedCall (replyOf service (now (journal .entry)) (SubmissionLine clock code date quarter value)) service (now (out .entry)) r (now (journal .exit)) (now (out .exit)) ⌝ }
 {
     let Day::Is(day) = calendar::day_of(date) else {
         return no_call(service.state, out, Refusal::NoSuchDay);
     };
-    let step = service.submit_value(journal, clock, code, day, quarter, value);
+    let measurement = Measurement {
+        code,
+        day,
+        quarter,
+        value,
+    };
+    let step = service.submit_value(journal, clock, measurement);
     let state = step.state;
     let submitted = step.submitted;
     let verdict = submitted.verdict;
@@ -81,7 +88,7 @@ pub fn clear(
     stamp: u64,
     out: &mut [u8],
 ) -> Answered
-    requires { ⌜ 7332 ≤ length (now out) ⌝ }
+    requires { ⌜ answerMost ≤ length (now out) ⌝ }
     ensures { λ r. ⌜ Replies AcceptedCall (replyOf service (now (journal .entry)) (ClearLine date stamp)) service (now (out .entry)) r (now (journal .exit)) (now (out .exit)) ⌝ }
 {
     let Day::Is(day) = calendar::day_of(date) else {
@@ -104,7 +111,7 @@ pub fn evaluation(
     until: u64,
     out: &mut [u8],
 ) -> Answered
-    requires { ⌜ 7332 ≤ length (now out) ⌝ }
+    requires { ⌜ answerMost ≤ length (now out) ⌝ }
     ensures { λ r. ⌜ Replies AcceptedCall (replyOf service (now (journal .entry)) (EvaluationLine date quarter until)) service (now (out .entry)) r (now (journal .entry)) (now (out .exit)) ⌝ }
 {
     let state = service.state;

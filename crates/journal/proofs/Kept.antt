@@ -4,11 +4,12 @@ use mathlib.Core.Path.{_≡_, refl}
 use mathlib.Core.Bool.{true}
 use mathlib.Core.List.{List, [], _∷_, _++_}
 use lib.Dec.{leb, eqb}
+use lib.ListN.{length}
 use borrow.Author.Tests.{eqb-true, le-leb}
 use Rattle.journal.specs.Readings.{those, shown}
 use Rattle.journal.specs.Entries.{Entry, dayIn, readingOf, readingsAt, kept, keep}
 use Rattle.lists.proofs.Cases.{by-test}
-use Rattle.journal.proofs.Those.{those-append, map-append}
+use Rattle.journal.proofs.Those.{those-append, map-append, length-those}
 use Rattle.journal.proofs.ShownLaws.{Rising, stays, shown-stays}
 
 pub readings-append : (es fs : List Entry) (p : ℕ) → readingsAt (es ++ fs) p ≡ readingsAt es p ++ readingsAt fs p
@@ -30,3 +31,8 @@ pub shown-keep : (K P T p : ℕ) (es : List Entry) → K ≤ dayIn p → P ≤ T
     → shown T (readingsAt (keep K P es) p) ≡ shown T (readingsAt es p)
 unfolding keep
 shown-keep K P T p es k l h = rw (readings-kept K P p es (le-leb K (dayIn p) k) es) (shown-stays P T 0 l (readingsAt es p) h)
+
+-- a clear keeps no more entries than there are
+pub length-keep : (K P : ℕ) (es : List Entry) → length (keep K P es) ≤ length es
+unfolding keep
+length-keep K P es = length-those (kept K P es) es

@@ -1,16 +1,17 @@
 -- What was read for a quarter hour, and how a journal stores it: as its magnitude. Assumes nothing.
 use Prim.Native.Nat.{ℕ}
 use mathlib.Core.Bool.{Bool}
-use lib.IntN.{ℤ, natAbs}
+use lib.IntN.{natAbs}
 use lib.Dec.{leb, eqb}
+use Rattle.values.specs.declared.Measurement.{Measurement}
 
 -- energy in hundredths of a kWh, withdrawn or supplied
 pub record Value : Type 0 where
   pub magnitude : ℕ
 
--- the value that a submission brings: withdrawals arrive as negative numbers, supplies as positive
-abbrev pub valueOf : ℤ → Value
-valueOf number = record { magnitude = natAbs number }
+-- the value of a measurement: withdrawals arrive as negative numbers, supplies as positive
+abbrev pub valueOf : Measurement → Value
+valueOf m = record { magnitude = natAbs (m .value) }
 
 -- two values are the same where their magnitudes are
 abbrev pub sameValue : Value → Value → Bool

@@ -4,13 +4,13 @@ use native.Mathlib.Omega.{arith}
 use mathlib.Core.Path.{_≡_, sym, ap, _∙_}
 use mathlib.Core.Bool.{true, false}
 use mathlib.Core.List.{List, [], _∷_, _++_}
-use lib.IntN.{ℤ, natAbs}
 use lib.ListN.{length, length-append}
 use Rattle.answers.specs.declared.Refusal.{Refusal}
 use Rattle.answers.specs.declared.Verdict.{Verdict}
 use Rattle.answers.specs.declared.Verdict.the-variants.{Accepted, Refused}
 use Rattle.answers.proofs.Refusals.{passed}
 use Rattle.lists.specs.Place.{placed}
+use Rattle.values.specs.declared.Measurement.{Measurement}
 use Rattle.calendar.specs.Quarters.{quarterExists}
 use Rattle.registration.proofs.Damage.{undamaged-parts}
 use Rattle.allocation.specs.Input.{Shareable}
@@ -28,39 +28,40 @@ use Rattle.service.specs.declared.Looked.{Looked}
 use Rattle.service.specs.Group.{Group}
 use Rattle.service.specs.Refusals.{damaged, repeats, submissionVerdict, clearVerdict, evaluationVerdict}
 use Rattle.service.specs.Calls.{nextStamp, entryOf, submitted, cleared, evaluated, step}
-use Rattle.service.specs.Record.{groupIn, stateOf, withState, callOn}
+use Rattle.service.specs.Record.{groupOf, stateOf, withState, callOn}
 use Rattle.service.specs.Contracts.{Submits, Clears, Evaluates}
 use Rattle.service.specs.Working.{Looks}
 use Rattle.service.proofs.Sound.{Sound, undamaged-sound}
 use Rattle.service.proofs.Undamaged.{few-points, right-of, fits-of}
 use Rattle.service.proofs.Own.{evaluation-own}
-use Rattle.service.proofs.Submissions.{admitted}
-use Rattle.service.proofs.Evaluations.{evaluating}
+use Rattle.service.proofs.Admitted.{admitted, evaluating}
 
 -- the record's changing part is that of the group it holds
-pub state-of : (s : Service) (j : List ℕ) → stateOf (s .state .last) (groupIn s j) ≡ s .state
+pub state-of : (s : Service) (j : List ℕ) → stateOf (s .state .last) (groupOf s j) ≡ s .state
 state-of s j = λ i. record {
   last = s .state .last;
-  «kept_stamp» = s .state .«kept_stamp»;
-  «kept_day» = s .state .«kept_day»;
-  entries = length-entries (s .state .entries) j i;
+  numbers = record {
+    «kept_stamp» = s .state .numbers .«kept_stamp»;
+    «kept_day» = s .state .numbers .«kept_day»;
+    entries = length-entries (s .state .numbers .entries) j i;
+  };
 }
 
 -- and writing its entries again alters nothing
-pub written-again : (s : Service) (j : List ℕ) → 3 * s .state .entries ≤ length j
-    → written (groupIn s j .entries) (s .state .entries - length (groupIn s j .entries)) j ≡ j
+pub written-again : (s : Service) (j : List ℕ) → 3 * s .state .numbers .entries ≤ length j
+    → written (groupOf s j .entries) (s .state .numbers .entries - length (groupOf s j .entries)) j ≡ j
 written-again s j h =
-    let n = s .state .entries in
+    let n = s .state .numbers .entries in
     let z : n - length (entries n j) ≡ 0 = omega (arith, length-entries n j) in
     rw z (written-same n j h)
 
-module _ (s : Service) (j : List ℕ) (clock code day quarter : ℕ) (value : ℤ) (looked : Looked)
-    (k : Looks (s .state .last) (groupIn s j) clock code day quarter value looked) where
+module _ (s : Service) (j : List ℕ) (clock : ℕ) (m : Measurement) (looked : Looked)
+    (k : Looks (s .state .last) (groupOf s j) clock m looked) where
   abbrev last : ℕ
   last = s .state .last
 
   abbrev G : Group
-  G = groupIn s j
+  G = groupOf s j
 
   -- an accepted submission finds nothing damaged
   accepted-sound : looked .verdict ≡ Accepted → Sound last G
@@ -68,107 +69,110 @@ module _ (s : Service) (j : List ℕ) (clock code day quarter : ℕ) (value : �
   accepted-sound a = undamaged-sound last G (passed _ _ _ (sym (k .verdict) ∙ a) .0)
 
   pub submits-refused : (refusal : Refusal) → looked .verdict ≡ Refused refusal
-      → Submits s j clock code day quarter value (withState s (s .state)) (record { verdict = looked .verdict; stamp = looked .stamp }) j
+      → Submits s j clock m (withState s (s .state)) (record { verdict = looked .verdict; stamp = looked .stamp }) j
   unfolding callOn step
   submits-refused refusal e =
-      let v : submissionVerdict last G clock code day quarter value ≡ Refused refusal = sym (k .verdict) ∙ e in
+      let v : submissionVerdict last G clock m ≡ Refused refusal = sym (k .verdict) ∙ e in
       let t : looked .stamp ≡ 0 = k .stamp ∙ rw v in
       record { service = rw v; answers = rw (v, e, t); journal = rw v }
 
   module _ (a : looked .verdict ≡ Accepted) where
-    abbrev v : submissionVerdict last G clock code day quarter value ≡ Accepted
+    abbrev v : submissionVerdict last G clock m ≡ Accepted
     v = sym (k .verdict) ∙ a
 
     pub submits-repeat : looked .repeat ≡ true
-        → Submits s j clock code day quarter value (withState s (s .state)) (record { verdict = looked .verdict; stamp = looked .stamp }) j
+        → Submits s j clock m (withState s (s .state)) (record { verdict = looked .verdict; stamp = looked .stamp }) j
     unfolding callOn step submitted
     submits-repeat e =
-        let r : repeats last G code day quarter value ≡ true = sym (k .repeat a) ∙ e in
+        let r : repeats last G m ≡ true = sym (k .repeat a) ∙ e in
         let t = rw (v, r) at (k .stamp) in
         record {
           service = rw (v, r) (ap (withState s) (sym (state-of s j)));
           answers = rw (v, r, a, t);
-          journal = rw (v, r) (sym (written-again s j (fits-of s j (accepted-sound a))));
+          journal = rw (v, r) (sym (written-again s j (fits-of _ _ _ (accepted-sound a))));
         }
 
     -- a new entry has room
-    pub new-fits : looked .repeat ≡ false → 3 * s .state .entries + 3 ≤ length j
+    pub new-fits : looked .repeat ≡ false → 3 * s .state .numbers .entries + 3 ≤ length j
     new-fits e =
-        let r : repeats last G code day quarter value ≡ false = sym (k .repeat a) ∙ e in
-        omega (arith, admitted last G clock code day quarter value v .room r, length-entries (s .state .entries) j)
+        let r : repeats last G m ≡ false = sym (k .repeat a) ∙ e in
+        omega (arith, admitted last G clock m v .room r, length-entries (s .state .numbers .entries) j)
 
-    pub submits-new : (magnitude : ℕ) (j′ : List ℕ) → looked .repeat ≡ false → magnitude ≡ natAbs value
-        → j′ ≡ placed (3 * s .state .entries) (numbers (record { stamp = looked .stamp; place = looked .place; stored = magnitude })) j
-        → Submits s j clock code day quarter value
-        (withState s (record { last = looked .stamp; «kept_stamp» = s .state .«kept_stamp»; «kept_day» = s .state .«kept_day»; entries = s .state .entries + 1 }))
+    pub submits-new : (j′ : List ℕ) → looked .repeat ≡ false
+        → j′ ≡ placed (3 * s .state .numbers .entries) (numbers (record { stamp = looked .stamp; place = looked .place; stored = looked .stored })) j
+        → Submits s j clock m
+        (withState s (record {
+          last = looked .stamp;
+          numbers = record { «kept_stamp» = s .state .numbers .«kept_stamp»; «kept_day» = s .state .numbers .«kept_day»; entries = s .state .numbers .entries + 1 };
+        }))
         (record { verdict = looked .verdict; stamp = looked .stamp }) j′
     unfolding callOn step submitted
-    submits-new magnitude j′ e m q =
-        let r : repeats last G code day quarter value ≡ false = sym (k .repeat a) ∙ e in
+    submits-new j′ e q =
+        let r : repeats last G m ≡ false = sym (k .repeat a) ∙ e in
         let t : looked .stamp ≡ nextStamp clock last = rw (v, r) at (k .stamp) in
-        let n = s .state .entries in
-        let new : Entry = entryOf G (nextStamp clock last) code day quarter value in
+        let n = s .state .numbers .entries in
+        let new : Entry = entryOf G (nextStamp clock last) m in
         let grown : length (entries n j ++ (new ∷ [])) ≡ n + 1 = length-append (entries n j) (new ∷ []) ∙ ap (λ (x : ℕ). x + 1) (length-entries n j) in
         let none : n - length (entries n j ++ (new ∷ [])) ≡ 0 = omega (arith, grown) in
         record {
           service = rw (v, r, t, grown);
           answers = rw (v, r, a, t);
-          journal = rw (v, r, none) (q ∙ rw (t, k .place a, m) (sym (put-append new n j (new-fits e))));
+          journal = rw (v, r, none) (q ∙ rw (t, k .place a, k .stored a) (sym (put-append new n j (new-fits e))));
         }
 
 -- ---- a clear
-pub clear-sound : (s : Service) (j : List ℕ) (day stamp : ℕ) → clearVerdict (s .state .last) (groupIn s j) day stamp ≡ Accepted
-    → Sound (s .state .last) (groupIn s j)
+pub clear-sound : (s : Service) (j : List ℕ) (day stamp : ℕ) → clearVerdict (s .state .last) (groupOf s j) day stamp ≡ Accepted
+    → Sound (s .state .last) (groupOf s j)
 unfolding clearVerdict
 clear-sound s j day stamp e = undamaged-sound _ _ (passed _ _ _ e .0)
 
 module _ (s : Service) (j : List ℕ) (day stamp : ℕ) where
-  pub clears-refused : (verdict : Verdict) (refusal : Refusal) → verdict ≡ clearVerdict (s .state .last) (groupIn s j) day stamp → verdict ≡ Refused refusal
+  pub clears-refused : (verdict : Verdict) (refusal : Refusal) → verdict ≡ clearVerdict (s .state .last) (groupOf s j) day stamp → verdict ≡ Refused refusal
       → Clears s j day stamp (withState s (s .state)) (record { verdict = Refused refusal; dropped = 0 }) j
   unfolding callOn step
   clears-refused verdict refusal e q =
-      let v : clearVerdict (s .state .last) (groupIn s j) day stamp ≡ Refused refusal = sym e ∙ q in
+      let v : clearVerdict (s .state .last) (groupOf s j) day stamp ≡ Refused refusal = sym e ∙ q in
       record { service = rw v; answers = rw v; journal = rw v }
 
-  pub clears-accepted : (verdict : Verdict) (count dropped : ℕ) (j′ : List ℕ) → verdict ≡ clearVerdict (s .state .last) (groupIn s j) day stamp
-      → verdict ≡ Accepted → ClearedJournal day stamp (s .state .entries) j j′ count → dropped ≡ s .state .entries - count
-      → Clears s j day stamp (withState s (record { last = s .state .last; «kept_stamp» = stamp; «kept_day» = day; entries = count }))
+  pub clears-accepted : (verdict : Verdict) (count dropped : ℕ) (j′ : List ℕ) → verdict ≡ clearVerdict (s .state .last) (groupOf s j) day stamp
+      → verdict ≡ Accepted → ClearedJournal day stamp (s .state .numbers .entries) j j′ count → dropped ≡ s .state .numbers .entries - count
+      → Clears s j day stamp (withState s (record { last = s .state .last; numbers = record { «kept_stamp» = stamp; «kept_day» = day; entries = count } }))
       (record { verdict = verdict; dropped = dropped }) j′
   unfolding callOn step cleared
   clears-accepted verdict count dropped j′ e q c d =
-      let v : clearVerdict (s .state .last) (groupIn s j) day stamp ≡ Accepted = sym e ∙ q in
+      let v : clearVerdict (s .state .last) (groupOf s j) day stamp ≡ Accepted = sym e ∙ q in
       record {
         service = rw (v, c .number);
-        answers = rw (v, q, d, c .number, length-entries (s .state .entries) j);
+        answers = rw (v, q, d, c .number, length-entries (s .state .numbers .entries) j);
         journal = rw v (c .journal);
       }
 
 -- ---- an evaluation
 module _ (s : Service) (j : List ℕ) (day quarter T : ℕ) (lent : List ℕ) where
-  pub evaluates-refused : (verdict : Verdict) (refusal : Refusal) → verdict ≡ evaluationVerdict (s .state .last) (groupIn s j) day quarter T lent
+  pub evaluates-refused : (verdict : Verdict) (refusal : Refusal) → verdict ≡ evaluationVerdict (s .state .last) (groupOf s j) day quarter T lent
       → verdict ≡ Refused refusal → Evaluates s j day quarter T lent (record { verdict = Refused refusal; rounds = 0 }) lent
   unfolding callOn step
   evaluates-refused verdict refusal e q =
-      let v : evaluationVerdict (s .state .last) (groupIn s j) day quarter T lent ≡ Refused refusal = sym e ∙ q in
+      let v : evaluationVerdict (s .state .last) (groupOf s j) day quarter T lent ≡ Refused refusal = sym e ∙ q in
       record { answers = rw v; result = rw v }
 
   -- what an accepted evaluation has passed
-  module _ (v : evaluationVerdict (s .state .last) (groupIn s j) day quarter T lent ≡ Accepted) where
-    pub evaluation-sound : Sound (s .state .last) (groupIn s j)
+  module _ (v : evaluationVerdict (s .state .last) (groupOf s j) day quarter T lent ≡ Accepted) where
+    pub evaluation-sound : Sound (s .state .last) (groupOf s j)
     unfolding evaluationVerdict
     evaluation-sound = undamaged-sound _ _ (passed _ _ _ v .0)
 
-    pub evaluation-asked : Shareable (s .registration) × (quarterExists day quarter ≡ true) × (3 * s .state .entries ≤ length j)
-        × Right (entries (s .state .entries) j) × (sizeOf (s .registration) ≤ length lent)
+    pub evaluation-asked : Shareable (s .registration) × (quarterExists day quarter ≡ true) × (3 * s .state .numbers .entries ≤ length j)
+        × Right (entries (s .state .numbers .entries) j) × (sizeOf (s .registration) ≤ length lent)
     evaluation-asked =
         let k = evaluation-sound in
         let m = evaluating _ _ _ _ _ _ v in
-        (undamaged-is-shareable _ (k .registered), m .exists, fits-of s j k, right-of _ _ (few-points _ _ k) k, m .long)
+        (undamaged-is-shareable _ (k .registered), m .exists, fits-of _ _ _ k, right-of _ _ (few-points _ _ k) k, m .long)
 
     pub evaluates-accepted : (verdict : Verdict) (rounds : ℕ) (lent′ : List ℕ) → verdict ≡ Accepted
-        → Allocated (s .registration) (magnitudesIn (s .registration) (entries (s .state .entries) j) day quarter T) lent lent′ rounds
+        → Allocated (s .registration) (magnitudesIn (s .registration) (entries (s .state .numbers .entries) j) day quarter T) lent lent′ rounds
         → Evaluates s j day quarter T lent (record { verdict = verdict; rounds = rounds }) lent′
     unfolding callOn step evaluated
     evaluates-accepted verdict rounds lent′ q m =
-        let own = evaluation-own (groupIn s j) day quarter T (undamaged-parts _ (evaluation-sound .registered) .differ) in
+        let own = evaluation-own (groupOf s j) day quarter T (undamaged-parts _ (evaluation-sound .registered) .differ) in
         record { answers = rw (v, q, own, m .rounds); result = rw (v, own) (m .result) }

@@ -7,8 +7,8 @@ use Rattle.answers.specs.declared.Verdict.{Verdict}
 use Rattle.answers.specs.declared.Verdict.the-variants.{Accepted, Refused}
 use Rattle.service.specs.declared.Service.{Service}
 use Rattle.service.specs.Refusals.{evaluationVerdict}
-use Rattle.service.specs.Calls.{evaluated, unless, step}
-use Rattle.service.specs.Record.{groupIn, withState, Left, writtenBack, callOn}
+use Rattle.service.specs.Calls.{evaluated, whenAccepted, step}
+use Rattle.service.specs.Record.{groupOf, withState, Left, writtenBack, callOn}
 use Rattle.service.specs.Laws.{EvaluationAltersNothing}
 use Rattle.service.proofs.Cores.{state-of, written-again, evaluation-asked}
 
@@ -18,13 +18,13 @@ Same s j left = (left .service ≡ s) × (left .journal ≡ j)
 
 module _ (s : Service) (j : List ℕ) (day quarter T : ℕ) (lent : List ℕ) where
   -- the group that record and journal hold is written back as it stands there
-  written-back : 3 * s .state .entries ≤ length j → Same s j (writtenBack Accepted s j (evaluated (s .state .last) (groupIn s j) day quarter T lent))
+  written-back : 3 * s .state .numbers .entries ≤ length j → Same s j (writtenBack Accepted s j (evaluated (s .state .last) (groupOf s j) day quarter T lent))
   unfolding evaluated
   written-back h = (ap (withState s) (state-of s j), written-again s j h)
 
   -- by the verdict: a refused evaluation writes nothing
-  either-same : (verdict : Verdict) → (verdict ≡ Accepted → 3 * s .state .entries ≤ length j)
-      → let after = unless verdict (s .state .last) (groupIn s j) lent (evaluated (s .state .last) (groupIn s j) day quarter T lent) in
+  either-same : (verdict : Verdict) → (verdict ≡ Accepted → 3 * s .state .numbers .entries ≤ length j)
+      → let after = whenAccepted verdict (s .state .last) (groupOf s j) lent (evaluated (s .state .last) (groupOf s j) day quarter T lent) in
       Same s j (writtenBack (after .seen .verdict) s j after)
   unfolding evaluated
   either-same Accepted h = written-back (h refl)
@@ -33,5 +33,5 @@ module _ (s : Service) (j : List ℕ) (day quarter T : ℕ) (lent : List ℕ) wh
 pub evaluation-alters-nothing : EvaluationAltersNothing
 unfolding callOn step
 evaluation-alters-nothing s j day quarter T lent =
-    either-same s j day quarter T lent (evaluationVerdict (s .state .last) (groupIn s j) day quarter T lent)
+    either-same s j day quarter T lent (evaluationVerdict (s .state .last) (groupOf s j) day quarter T lent)
     (λ e. evaluation-asked s j day quarter T lent e .2)

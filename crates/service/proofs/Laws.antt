@@ -1,18 +1,21 @@
--- A refused call alters nothing; no call alters the journal's length or the registration. Assumes nothing.
-use Prim.Native.Nat.{ℕ}
+-- A refused call alters nothing; no call alters the journal's length or the registration; a clear sets nothing back, and leaves the weeks that a mean
+-- needs. Assumes nothing.
+use Prim.Native.Nat.{ℕ, zero, suc}
+use native.Mathlib.Omega.{arith}
 use mathlib.Core.Path.{_≡_, refl, sym, ap, _∙_}
 use mathlib.Core.Bool.{true, false≢true}
 use mathlib.Core.List.{List}
 use Rattle.answers.specs.declared.Verdict.{Verdict}
 use Rattle.answers.specs.declared.Verdict.the-variants.{Accepted, Refused}
 use Rattle.service.specs.declared.Service.{Service}
-use Rattle.service.specs.Group.{Group, Seen, After}
+use Rattle.service.specs.Group.{Group, Seen, After, isRefused, refused}
+use Rattle.service.specs.Refusals.{earliest}
 use Rattle.service.specs.Calls.{step}
-use Rattle.service.specs.Record.{groupIn, writtenBack, callOn}
-use Rattle.service.specs.Demand3.{isRefused, refused}
-use Rattle.service.specs.Laws.{lentBy, RefusedAltersNothing, LengthStays}
+use Rattle.service.specs.Record.{groupOf, writtenBack, callOn}
+use Rattle.service.specs.Laws.{lentBy, RefusedAltersNothing, LengthStays, ClearGoesOn, FourWeeksKept}
 use Rattle.service.proofs.Leaves.{Untouched, Leaves, leaves}
 use Rattle.service.proofs.ReadAgain.{through}
+use Rattle.service.proofs.Admitted.{clearing}
 
 -- a refused call writes nothing back
 nothing-written : (verdict : Verdict) (s : Service) (j : List ℕ) (after : After) → isRefused verdict ≡ true
@@ -30,11 +33,11 @@ untouched (Refused refusal) last G lent after e k = k
 pub refused-alters-nothing : RefusedAltersNothing
 unfolding callOn
 refused-alters-nothing s j call e =
-    let after = step (s .state .last) (groupIn s j) call in
+    let after = step (s .state .last) (groupOf s j) call in
     let seen : callOn s j call .seen ≡ after .seen = through s j call .seen in
     let e′ : isRefused (after .seen .verdict) ≡ true = ap refused (sym seen) ∙ e in
     let w = nothing-written (after .seen .verdict) s j after e′ in
-    let u = untouched (after .seen .verdict) (s .state .last) (groupIn s j) (lentBy call) after e′ (leaves (s .state .last) (groupIn s j) call) in
+    let u = untouched (after .seen .verdict) (s .state .last) (groupOf s j) (lentBy call) after e′ (leaves (s .state .last) (groupOf s j) call) in
     record {
       service = w .0;
       journal = w .1;
@@ -45,3 +48,15 @@ refused-alters-nothing s j call e =
 -- what is written back is as long as what was there, and the registration is not written
 pub length-stays : LengthStays
 length-stays s j call = (through s j call .length-same, through s j call .registration)
+
+-- an accepted clear has passed the tests that say so
+pub clear-goes-on : ClearGoesOn
+clear-goes-on last G day stamp e =
+    let a = clearing last G day stamp e in
+    (a .not-cleared, a .from, a .to)
+
+-- the first day that can be evaluated lies four weeks after the kept day
+pub four-weeks-kept : FourWeeksKept
+unfolding earliest
+four-weeks-kept zero day before h l = omega arith
+four-weeks-kept (suc K) day before h l = omega arith

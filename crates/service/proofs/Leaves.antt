@@ -3,7 +3,7 @@ use Prim.Native.Nat.{ℕ, _*_, _≤_}
 use native.Mathlib.Omega.{arith}
 use mathlib.Core.Path.{_≡_, refl, sym, subst}
 use mathlib.Core.List.{List, [], _∷_}
-use lib.IntN.{ℤ}
+use Rattle.values.specs.declared.Measurement.{Measurement}
 use lib.ListN.{length, length-append}
 use Rattle.answers.specs.declared.Verdict.{Verdict}
 use Rattle.answers.specs.declared.Verdict.the-variants.{Accepted, Refused}
@@ -11,11 +11,11 @@ use Rattle.answers.proofs.Refusals.{passed}
 use Rattle.lists.proofs.Cases.{by-test}
 use Rattle.service.specs.Group.{Group, Call, Submission, Clear, Evaluation, After}
 use Rattle.service.specs.Refusals.{repeats, submissionVerdict, clearVerdict, evaluationVerdict}
-use Rattle.service.specs.Calls.{nextStamp, entryOf, submitted, cleared, evaluated, unless, step}
+use Rattle.service.specs.Calls.{nextStamp, entryOf, submitted, cleared, evaluated, whenAccepted, step}
 use Rattle.service.specs.Laws.{lentBy}
 use Rattle.service.proofs.Sound.{undamaged-sound}
-use Rattle.service.proofs.Submissions.{admitted, submitted-accepted}
-use Rattle.service.proofs.Clearings.{length-keep}
+use Rattle.service.proofs.Admitted.{admitted, submitted-accepted}
+use Rattle.journal.proofs.Kept.{length-keep}
 
 -- a refused call leaves last stamp, group and the list lent, and returns 0
 pub record Untouched (last : ℕ) (G : Group) (lent : List ℕ) (after : After) : Type 0 where
@@ -37,26 +37,26 @@ Leaves (Refused refusal) last G lent after = Untouched last G lent after
 Leaves Accepted last G lent after = Fits G after
 
 -- a refused call leaves all, and an accepted one what its own law says
-leaves-unless : (verdict : Verdict) (last : ℕ) (G : Group) (lent : List ℕ) (after : After) → after .seen .verdict ≡ Accepted
+leaves-when-accepted : (verdict : Verdict) (last : ℕ) (G : Group) (lent : List ℕ) (after : After) → after .seen .verdict ≡ Accepted
     → (verdict ≡ Accepted → Fits G after)
-    → Leaves (unless verdict last G lent after .seen .verdict) last G lent (unless verdict last G lent after)
-leaves-unless Accepted last G lent after e f = subst (λ (v : Verdict). Leaves v last G lent after) (sym e) (f refl)
-leaves-unless (Refused refusal) last G lent after e f = record { last-same = refl; group = refl; result = refl; number = refl }
+    → Leaves (whenAccepted verdict last G lent after .seen .verdict) last G lent (whenAccepted verdict last G lent after)
+leaves-when-accepted Accepted last G lent after e f = subst (λ (v : Verdict). Leaves v last G lent after) (sym e) (f refl)
+leaves-when-accepted (Refused refusal) last G lent after e f = record { last-same = refl; group = refl; result = refl; number = refl }
 
 -- an accepted submission
-submission-fits : (last : ℕ) (G : Group) (clock code day quarter : ℕ) (value : ℤ) → submissionVerdict last G clock code day quarter value ≡ Accepted
-    → Fits G (submitted last G clock code day quarter value)
+submission-fits : (last : ℕ) (G : Group) (clock : ℕ) (m : Measurement) → submissionVerdict last G clock m ≡ Accepted
+    → Fits G (submitted last G clock m)
 unfolding submitted submissionVerdict
-submission-fits last G clock code day quarter value e =
+submission-fits last G clock m e =
     let s = undamaged-sound last G (passed _ _ _ e .0) in
-    let a = admitted last G clock code day quarter value e in
-    by-test (repeats last G code day quarter value)
+    let a = admitted last G clock m e in
+    by-test (repeats last G m)
     (λ t. rw t (record { registration = refl; room = refl; before = s .fits; now = s .fits }))
     (λ t. rw t (record {
       registration = refl;
       room = refl;
       before = s .fits;
-      now = omega (arith, a .room t, length-append (G .entries) (entryOf G (nextStamp clock last) code day quarter value ∷ []));
+      now = omega (arith, a .room t, length-append (G .entries) (entryOf G (nextStamp clock last) m ∷ []));
     }))
 
 -- an accepted clear
@@ -64,7 +64,7 @@ clear-fits : (last : ℕ) (G : Group) (day stamp : ℕ) → clearVerdict last G 
 unfolding cleared clearVerdict
 clear-fits last G day stamp e =
     let s = undamaged-sound last G (passed _ _ _ e .0) in
-    record { registration = refl; room = refl; before = s .fits; now = omega (arith, s .fits, length-keep G day stamp) }
+    record { registration = refl; room = refl; before = s .fits; now = omega (arith, s .fits, length-keep day stamp (G .entries)) }
 
 -- an accepted evaluation
 evaluation-fits : (last : ℕ) (G : Group) (day quarter T : ℕ) (lent : List ℕ) → evaluationVerdict last G day quarter T lent ≡ Accepted
@@ -77,7 +77,7 @@ evaluation-fits last G day quarter T lent e =
 -- every call, on whatever group
 pub leaves : (last : ℕ) (G : Group) (call : Call) → Leaves (step last G call .seen .verdict) last G (lentBy call) (step last G call)
 unfolding step cleared evaluated
-leaves last G (Submission clock code day quarter value) =
-    leaves-unless _ last G [] _ (submitted-accepted last G clock code day quarter value) (submission-fits last G clock code day quarter value)
-leaves last G (Clear day stamp) = leaves-unless _ last G [] _ refl (clear-fits last G day stamp)
-leaves last G (Evaluation day quarter T lent) = leaves-unless _ last G lent _ refl (evaluation-fits last G day quarter T lent)
+leaves last G (Submission clock m) =
+    leaves-when-accepted _ last G [] _ (submitted-accepted last G clock m) (submission-fits last G clock m)
+leaves last G (Clear day stamp) = leaves-when-accepted _ last G [] _ refl (clear-fits last G day stamp)
+leaves last G (Evaluation day quarter T lent) = leaves-when-accepted _ last G lent _ refl (evaluation-fits last G day quarter T lent)

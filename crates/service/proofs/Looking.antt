@@ -4,16 +4,16 @@ use mathlib.Core.Path.{_≡_, refl, sym}
 use mathlib.Core.Bool.{true, false, not, _&&_}
 use mathlib.Core.Option.{Option}
 use native.Mathlib.Omega.{arith}
-use lib.IntN.{ℤ, natAbs}
 use lib.ListN.{length}
 use borrow.Author.Tests.{lt-ltb, le-ltb, eq-eqb, ne-eqb}
 use Rattle.answers.specs.declared.Refusal.{Refusal}
 use Rattle.answers.specs.declared.Refusal.the-variants.{JournalFull}
 use Rattle.answers.specs.declared.Verdict.the-variants.{Accepted, Refused}
 use Rattle.lists.proofs.Cases.{by-test}
+use Rattle.values.specs.declared.Measurement.{Measurement}
 use Rattle.journal.specs.declared.Found.{Found}
 use Rattle.journal.specs.declared.Found.the-variants.{Shown, Nothing}
-use Rattle.journal.specs.Value.{valueIn, valueOf}
+use Rattle.journal.specs.Value.{valueIn, valueOf, storedOf}
 use Rattle.journal.specs.Order.{Reading}
 use Rattle.journal.specs.Readings.{shown}
 use Rattle.journal.specs.Entries.{readingsAt}
@@ -23,7 +23,7 @@ use Rattle.lists.proofs.TableLaws.{length-table}
 use Rattle.registration.specs.declared.Registration.{Registration}
 use Rattle.registration.specs.Rules.{points, codeAt}
 use Rattle.points.specs.Points.{codesOf, indexOf, has}
-use Rattle.service.specs.Group.{Group, placeFor, readingsOf}
+use Rattle.service.specs.Group.{Group, placeFor, readingsFor}
 use Rattle.service.specs.Refusals.{repeats, full, submissionVerdict}
 use Rattle.service.specs.Calls.{nextStamp, submitted, step}
 use Rattle.service.specs.Working.{refusedLook, newLook, settled, Looks}
@@ -40,47 +40,60 @@ module _ (r : Registration) (code point : ℕ) (e : point ≡ indexOf code (code
   not-in-group h = rw (← e, length-table (codeAt r) (points r)) (le-ltb point (points r) h)
 
 -- ---- a new entry, by whether three numbers are left
-module _ (left clock last place : ℕ) where
-  pub new-refused : (r : Looked) → left < 3 → r ≡ refusedLook JournalFull → r ≡ newLook left clock last place
+module _ (left clock last place stored : ℕ) where
+  pub new-refused : (r : Looked) → left < 3 → r ≡ refusedLook JournalFull → r ≡ newLook left clock last place stored
   new-refused r h e = rw (lt-ltb left 3 h) e
 
   pub new-accepted : (stamp : ℕ) → 3 ≤ left → stamp ≡ nextStamp clock last
-      → _≡_ {A = Looked} (record { verdict = Accepted; repeat = false; stamp = stamp; place = place }) (newLook left clock last place)
+      → _≡_ {A = Looked} (record { verdict = Accepted; repeat = false; stamp = stamp; place = place; stored = stored }) (newLook left clock last place stored)
   new-accepted stamp h e = rw (le-ltb left 3 h, e)
 
 -- ---- by what the search found
-module _ (old : Found) (magnitude left clock last place : ℕ) where
-  pub settled-none : (r : Looked) → old ≡ Nothing → r ≡ newLook left clock last place
-      → r ≡ settled (found old) (valueIn magnitude) left clock last place
+module _ (old : Found) (stored left clock last place : ℕ) where
+  pub settled-none : (r : Looked) → old ≡ Nothing → r ≡ newLook left clock last place stored
+      → r ≡ settled (found old) (valueIn stored) left clock last place
   settled-none r e n = rw e n
 
-  module _ (stamp stored : ℕ) (e : old ≡ Shown stamp stored) where
-    pub settled-repeat : stored ≡ magnitude
-        → _≡_ {A = Looked} (record { verdict = Accepted; repeat = true; stamp = stamp; place = place }) (settled (found old) (valueIn magnitude) left clock last place)
-    settled-repeat q = rw (e, eq-eqb stored magnitude q)
+  module _ (stamp before : ℕ) (e : old ≡ Shown stamp before) where
+    pub settled-repeat : before ≡ stored
+        → _≡_ {A = Looked} (record { verdict = Accepted; repeat = true; stamp = stamp; place = place; stored = stored })
+        (settled (found old) (valueIn stored) left clock last place)
+    settled-repeat q = rw (e, eq-eqb before stored q)
 
-    pub settled-other : (r : Looked) → (stored ≡ magnitude → ⊥) → r ≡ newLook left clock last place
-        → r ≡ settled (found old) (valueIn magnitude) left clock last place
-    settled-other r q n = rw (e, ne-eqb stored magnitude q) n
+    pub settled-other : (r : Looked) → (before ≡ stored → ⊥) → r ≡ newLook left clock last place stored
+        → r ≡ settled (found old) (valueIn stored) left clock last place
+    settled-other r q n = rw (e, ne-eqb before stored q) n
 
-module _ (last : ℕ) (G : Group) (clock code day quarter : ℕ) (value : ℤ) where
+module _ (last : ℕ) (G : Group) (clock : ℕ) (m : Measurement) where
   -- nothing is looked up for a refused submission
-  pub looks-refused : (refusal : Refusal) (r : Looked) → Refused refusal ≡ submissionVerdict last G clock code day quarter value → r ≡ refusedLook refusal
-      → Looks last G clock code day quarter value r
+  pub looks-refused : (refusal : Refusal) (r : Looked) → Refused refusal ≡ submissionVerdict last G clock m → r ≡ refusedLook refusal
+      → Looks last G clock m r
   unfolding step
   looks-refused refusal r e q =
-      rw q (record { verdict = e; stamp = rw (← e); repeat = λ a. never-accepted refusal a; place = λ a. never-accepted refusal a })
+      rw q (record {
+        verdict = e;
+        stamp = rw (← e);
+        repeat = λ a. never-accepted refusal a;
+        place = λ a. never-accepted refusal a;
+        stored = λ a. never-accepted refusal a;
+      })
 
   -- the verdict past all tests but the last
-  module _ (full-verdict : not (repeats last G code day quarter value) && full G ≡ true → Refused JournalFull ≡ submissionVerdict last G clock code day quarter value)
-      (accepted-verdict : not (repeats last G code day quarter value) && full G ≡ false → Accepted ≡ submissionVerdict last G clock code day quarter value) where
-    pub looks-settled : Looks last G clock code day quarter value
-        (settled (shown last (readingsOf G code day quarter)) (valueOf value) (G .room - 3 * length (G .entries)) clock last (placeFor G code day quarter))
+  module _ (full-verdict : not (repeats last G m) && full G ≡ true → Refused JournalFull ≡ submissionVerdict last G clock m)
+      (accepted-verdict : not (repeats last G m) && full G ≡ false → Accepted ≡ submissionVerdict last G clock m) where
+    pub looks-settled : Looks last G clock m
+        (settled (shown last (readingsFor G m)) (valueOf m) (G .room - 3 * length (G .entries)) clock last (placeFor G (m .code) (m .day) (m .quarter)))
     unfolding step submitted
     looks-settled =
-        by-test (repeats last G code day quarter value)
+        by-test (repeats last G m)
         (λ t.
-        rw t (record { verdict = accepted-verdict (rw t); stamp = rw (← accepted-verdict (rw t), t); repeat = λ a. sym t; place = λ a. refl }))
+        rw t (record {
+          verdict = accepted-verdict (rw t);
+          stamp = rw (← accepted-verdict (rw t), t);
+          repeat = λ a. sym t;
+          place = λ a. refl;
+          stored = λ a. refl;
+        }))
         (λ t.
         by-test (full G)
         (λ u. rw (t, u) (looks-refused JournalFull _ (full-verdict (rw (t, u))) refl))
@@ -89,10 +102,11 @@ module _ (last : ℕ) (G : Group) (clock code day quarter : ℕ) (value : ℤ) w
           stamp = rw (← accepted-verdict (rw (t, u)), t);
           repeat = λ a. sym t;
           place = λ a. refl;
+          stored = λ a. refl;
         })))
 
     -- the same of what the search found
-    pub looks-found : (r : Looked) (old : Option Reading) (magnitude left place : ℕ) → r ≡ settled old (valueIn magnitude) left clock last place
-        → old ≡ shown last (readingsAt (G .entries) place) → magnitude ≡ natAbs value → left ≡ G .room - 3 * length (G .entries)
-        → place ≡ placeFor G code day quarter → Looks last G clock code day quarter value r
-    looks-found r old magnitude left place e o m l p = rw (e, o, m, l, p) looks-settled
+    pub looks-found : (r : Looked) (old : Option Reading) (stored left place : ℕ) → r ≡ settled old (valueIn stored) left clock last place
+        → old ≡ shown last (readingsAt (G .entries) place) → stored ≡ storedOf (valueOf m) → left ≡ G .room - 3 * length (G .entries)
+        → place ≡ placeFor G (m .code) (m .day) (m .quarter) → Looks last G clock m r
+    looks-found r old stored left place e o v l p = rw (e, v, o, l, p) looks-settled

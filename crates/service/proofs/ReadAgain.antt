@@ -11,7 +11,7 @@ use Rattle.journal.proofs.Stored.{entries-written, length-entries, length-writt
 use Rattle.service.specs.declared.Service.{Service}
 use Rattle.service.specs.Group.{Call, After}
 use Rattle.service.specs.Calls.{step}
-use Rattle.service.specs.Record.{groupIn, Left, writtenBack, callOn}
+use Rattle.service.specs.Record.{groupOf, Left, writtenBack, callOn}
 use Rattle.service.specs.Laws.{lentBy}
 use Rattle.service.proofs.Leaves.{Fits, Leaves, leaves}
 
@@ -19,18 +19,18 @@ use Rattle.service.proofs.Leaves.{Fits, Leaves, leaves}
 pub record Through (s : Service) (j : List ℕ) (after : After) (left : Left) : Type 0 where
   pub seen : left .seen ≡ after .seen
   pub last : left .service .state .last ≡ after .last
-  pub group : groupIn (left .service) (left .journal) ≡ after .group
+  pub group : groupOf (left .service) (left .journal) ≡ after .group
   pub registration : left .service .registration ≡ s .registration
   pub length-same : length (left .journal) ≡ length j
 
 -- a call on record and journal that leaves this of the group in them
 module _ (s : Service) (j : List ℕ) (after : After) where
   -- an accepted call
-  through-accepted : Fits (groupIn s j) after → Through s j after (writtenBack Accepted s j after)
+  through-accepted : Fits (groupOf s j) after → Through s j after (writtenBack Accepted s j after)
   through-accepted f =
       let es = after .group .entries in
-      let emptied = s .state .entries - length es in
-      let n = length-entries (s .state .entries) j in
+      let emptied = s .state .numbers .entries - length es in
+      let n = length-entries (s .state .numbers .entries) j in
       let l : length (written es emptied j) ≡ length j = length-written es emptied j (omega (arith, n, f .before, f .now)) in
       let r : s .registration ≡ after .group .registration = sym (f .registration) in
       let room : length (written es emptied j) ≡ after .group .room = l ∙ sym (f .room) in
@@ -50,15 +50,15 @@ module _ (s : Service) (j : List ℕ) (after : After) where
       }
 
   -- a call of either verdict
-  through-either : (verdict : Verdict) (lent : List ℕ) → Leaves verdict (s .state .last) (groupIn s j) lent after
+  through-either : (verdict : Verdict) (lent : List ℕ) → Leaves verdict (s .state .last) (groupOf s j) lent after
       → Through s j after (writtenBack verdict s j after)
   through-either Accepted lent f = through-accepted f
   through-either (Refused refusal) lent k =
       record { seen = refl; last = sym (k .last-same); group = sym (k .group); registration = refl; length-same = refl }
 
 -- every call, on whatever record and journal
-pub through : (s : Service) (j : List ℕ) (call : Call) → Through s j (step (s .state .last) (groupIn s j) call) (callOn s j call)
+pub through : (s : Service) (j : List ℕ) (call : Call) → Through s j (step (s .state .last) (groupOf s j) call) (callOn s j call)
 unfolding callOn
 through s j call =
-    let after = step (s .state .last) (groupIn s j) call in
-    through-either s j after (after .seen .verdict) (lentBy call) (leaves (s .state .last) (groupIn s j) call)
+    let after = step (s .state .last) (groupOf s j) call in
+    through-either s j after (after .seen .verdict) (lentBy call) (leaves (s .state .last) (groupOf s j) call)

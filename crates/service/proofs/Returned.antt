@@ -4,7 +4,7 @@ use native.Mathlib.Omega.{arith}
 use mathlib.Core.Path.{_≡_, refl}
 use mathlib.Core.List.{List, []}
 use mathlib.Core.Option.{Option, none, some}
-use lib.IntN.{ℤ}
+use Rattle.values.specs.declared.Measurement.{Measurement}
 use lib.ListN.{length}
 use Rattle.answers.specs.declared.Verdict.{Verdict}
 use Rattle.answers.specs.declared.Verdict.the-variants.{Accepted, Refused}
@@ -19,12 +19,12 @@ use Rattle.allocation.proofs.Laws.{undamaged-is-shareable}
 use Rattle.allocation.proofs.ResultBounds.{ResultWithin}
 use Rattle.evaluation.proofs.Greatest.{readings-small, evaluation-within, rounds-few}
 use Rattle.service.specs.declared.Service.{Service}
-use Rattle.service.specs.Group.{Group, Submission, Clear, Evaluation, After, rollOf, placeFor, readingsOf}
+use Rattle.service.specs.Group.{Group, Submission, Clear, Evaluation, After, rollOf, placeFor, readingsOf, readingsFor}
 use Rattle.service.specs.Refusals.{stampMost, repeats, submissionVerdict, clearVerdict, evaluationVerdict}
-use Rattle.service.specs.Calls.{submitted, cleared, evaluated, unless, step}
-use Rattle.service.specs.Record.{groupIn, callOn}
+use Rattle.service.specs.Calls.{submitted, cleared, evaluated, whenAccepted, step}
+use Rattle.service.specs.Record.{groupOf, callOn}
 use Rattle.service.proofs.Sound.{undamaged-sound}
-use Rattle.service.proofs.Submissions.{admitted}
+use Rattle.service.proofs.Admitted.{admitted}
 use Rattle.service.proofs.ReadAgain.{through}
 use Rattle.service.proofs.Looking.{never-accepted}
 
@@ -35,25 +35,25 @@ stamp-shown T rs (some m) k = k .in-time
 
 -- a refused call returns 0, an accepted one what its own law says
 module _ (last : ℕ) (G : Group) (lent : List ℕ) (after : After) where
-  number-unless : (P : ℕ → Type 0) (verdict : Verdict) → P 0 → (verdict ≡ Accepted → P (after .seen .number))
-      → P (unless verdict last G lent after .seen .number)
-  number-unless P Accepted h k = k refl
-  number-unless P (Refused refusal) h k = h
+  number-when-accepted : (P : ℕ → Type 0) (verdict : Verdict) → P 0 → (verdict ≡ Accepted → P (after .seen .number))
+      → P (whenAccepted verdict last G lent after .seen .number)
+  number-when-accepted P Accepted h k = k refl
+  number-when-accepted P (Refused refusal) h k = h
 
-  result-unless : (verdict : Verdict) (r : Registration) → (verdict ≡ Accepted → ResultWithin r (after .seen .result))
-      → unless verdict last G lent after .seen .verdict ≡ Accepted → ResultWithin r (unless verdict last G lent after .seen .result)
-  result-unless Accepted r h e = h refl
-  result-unless (Refused refusal) r h e = never-accepted refusal e
+  result-when-accepted : (verdict : Verdict) (r : Registration) → (verdict ≡ Accepted → ResultWithin r (after .seen .result))
+      → whenAccepted verdict last G lent after .seen .verdict ≡ Accepted → ResultWithin r (whenAccepted verdict last G lent after .seen .result)
+  result-when-accepted Accepted r h e = h refl
+  result-when-accepted (Refused refusal) r h e = never-accepted refusal e
 
 -- the stamp of an accepted submission
-submitted-number : (last : ℕ) (G : Group) (clock code day quarter : ℕ) (value : ℤ) → submissionVerdict last G clock code day quarter value ≡ Accepted
-    → submitted last G clock code day quarter value .seen .number ≤ stampMost
+submitted-number : (last : ℕ) (G : Group) (clock : ℕ) (m : Measurement) → submissionVerdict last G clock m ≡ Accepted
+    → submitted last G clock m .seen .number ≤ stampMost
 unfolding submitted submissionVerdict
-submitted-number last G clock code day quarter value e =
+submitted-number last G clock m e =
     let s = undamaged-sound last G (passed _ _ _ e .0) in
-    let a = admitted last G clock code day quarter value e in
-    let rs = readingsOf G code day quarter in
-    by-test (repeats last G code day quarter value)
+    let a = admitted last G clock m e in
+    let rs = readingsFor G m in
+    by-test (repeats last G m)
     (λ t. rw t (omega (arith, s .last-stamp, stamp-shown last rs (shown last rs) (shown-is-newest last rs))))
     (λ t. rw t (omega (arith, s .last-stamp, a .clock-small, a .last-less)))
 
@@ -76,22 +76,22 @@ module _ (s : Service) (j : List ℕ) where
   last = s .state .last
 
   abbrev G : Group
-  G = groupIn s j
+  G = groupOf s j
 
   -- a submission returns no stamp above the greatest
-  pub stamp-returned : (clock code day quarter : ℕ) (value : ℤ) → callOn s j (Submission clock code day quarter value) .seen .number ≤ stampMost
+  pub stamp-returned : (clock : ℕ) (m : Measurement) → callOn s j (Submission clock m) .seen .number ≤ stampMost
   unfolding step
-  stamp-returned clock code day quarter value =
-      rw (through s j (Submission clock code day quarter value) .seen)
-      (number-unless last G [] (submitted last G clock code day quarter value) (λ n. n ≤ stampMost)
-      (submissionVerdict last G clock code day quarter value) (omega arith) (submitted-number last G clock code day quarter value))
+  stamp-returned clock m =
+      rw (through s j (Submission clock m) .seen)
+      (number-when-accepted last G [] (submitted last G clock m) (λ n. n ≤ stampMost)
+      (submissionVerdict last G clock m) (omega arith) (submitted-number last G clock m))
 
   -- a clear drops no more entries than the journal has room for
   pub dropped-returned : (day stamp : ℕ) → 3 * callOn s j (Clear day stamp) .seen .number ≤ length j
   unfolding step
   dropped-returned day stamp =
       rw (through s j (Clear day stamp) .seen)
-      (number-unless last G [] (cleared last G day stamp) (λ n. 3 * n ≤ length j) (clearVerdict last G day stamp) (omega arith)
+      (number-when-accepted last G [] (cleared last G day stamp) (λ n. 3 * n ≤ length j) (clearVerdict last G day stamp) (omega arith)
       (cleared-number last G day stamp))
 
   module _ (day quarter T : ℕ) (lent : List ℕ) where
@@ -100,7 +100,7 @@ module _ (s : Service) (j : List ℕ) where
     unfolding step evaluated
     rounds-returned =
         rw (through s j (Evaluation day quarter T lent) .seen)
-        (number-unless last G lent (evaluated last G day quarter T lent) (λ n. n ≤ 5) (evaluationVerdict last G day quarter T lent) (omega arith)
+        (number-when-accepted last G lent (evaluated last G day quarter T lent) (λ n. n ≤ 5) (evaluationVerdict last G day quarter T lent) (omega arith)
         (λ e. rounds-few (s .registration) (readingsOf G) day quarter T))
 
     -- and an accepted one gives no number above the greatest magnitude
@@ -110,5 +110,5 @@ module _ (s : Service) (j : List ℕ) where
     result-returned e =
         let seen = through s j (Evaluation day quarter T lent) .seen in
         rw seen
-        (result-unless last G lent (evaluated last G day quarter T lent) (evaluationVerdict last G day quarter T lent) (s .registration)
+        (result-when-accepted last G lent (evaluated last G day quarter T lent) (evaluationVerdict last G day quarter T lent) (s .registration)
         (evaluated-result last G day quarter T lent) (rw seen at e))

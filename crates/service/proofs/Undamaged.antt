@@ -7,12 +7,13 @@ use mathlib.Core.List.{List}
 use lib.ListN.{length}
 use borrow.Author.Tests.{le-ltb}
 use Rattle.lists.proofs.TableLaws.{length-table}
+use Rattle.registration.specs.declared.Registration.{Registration}
 use Rattle.registration.specs.Rules.{points, codeAt}
 use Rattle.registration.specs.Damage.{isDamaged}
 use Rattle.registration.proofs.Damage.{undamaged-parts, point-bounds}
 use Rattle.journal.specs.Damage.{entriesRight, Right, RightFor}
 use Rattle.journal.proofs.Stored.{length-entries}
-use Rattle.service.specs.declared.Service.{Service}
+use Rattle.service.specs.declared.Numbers.{Numbers}
 use Rattle.service.specs.Record.{groupIn}
 use Rattle.service.specs.Group.{Group}
 use Rattle.service.specs.Refusals.{stampMost, damaged}
@@ -56,5 +57,5 @@ right-for last G h k =
 pub right-of : (last : ℕ) (G : Group) → points (G .registration) ≤ 64 → Sound last G → Right (G .entries)
 right-of last G h k = record { points = points (G .registration); all = right-for last G h k }
 
-pub fits-of : (s : Service) (j : List ℕ) → Sound (s .state .last) (groupIn s j) → 3 * s .state .entries ≤ length j
-fits-of s j k = omega (arith, k .fits, length-entries (s .state .entries) j)
+pub fits-of : {last : ℕ} (r : Registration) (numbers : Numbers) (j : List ℕ) → Sound last (groupIn r numbers j) → 3 * numbers .entries ≤ length j
+fits-of r numbers j k = omega (arith, k .fits, length-entries (numbers .entries) j)

@@ -3,11 +3,12 @@ use Prim.Native.Nat.{ℕ, _-_, _≤_, _<_}
 use mathlib.Core.Path.{_≡_}
 use mathlib.Core.Bool.{true, false, not, _&&_}
 use mathlib.Core.List.{List}
-use lib.IntN.{ℤ, natAbs}
+use lib.IntN.{natAbs}
 use lib.ListN.{length}
 use Rattle.answers.specs.declared.Verdict.the-variants.{Accepted, Refused}
 use Rattle.answers.specs.declared.Refusal.the-variants.{CodeNotInGroup, NoSuchDay, ValueWrong, DayCleared, StampOutside, ClockOutside, JournalFull, Damaged, TooShort}
 use Rattle.answers.proofs.Refusals.{refusals}
+use Rattle.values.specs.declared.Measurement.{Measurement}
 use Rattle.calendar.specs.Dates.{isDay}
 use Rattle.calendar.specs.Quarters.{quarterExists}
 use Rattle.allocation.specs.Result.{sizeOf}
@@ -15,55 +16,55 @@ use Rattle.points.specs.Points.{indexOf, has, signSuits}
 use Rattle.service.specs.Group.{Group, rollOf}
 use Rattle.service.specs.Refusals.{damaged, repeats, full, earliest, stampMost, submissionVerdict, clearVerdict, evaluationVerdict}
 
-module _ (last : ℕ) (G : Group) (clock code day quarter : ℕ) (value : ℤ) where
-  pub submission-damaged : damaged last G ≡ true → Refused Damaged ≡ submissionVerdict last G clock code day quarter value
+module _ (last : ℕ) (G : Group) (clock : ℕ) (m : Measurement) where
+  pub submission-damaged : damaged last G ≡ true → Refused Damaged ≡ submissionVerdict last G clock m
   unfolding submissionVerdict
   submission-damaged t = search refusals
 
   module _ (d : damaged last G ≡ false) where
-    pub submission-unknown : has code (rollOf G) ≡ false → Refused CodeNotInGroup ≡ submissionVerdict last G clock code day quarter value
+    pub submission-unknown : has (m .code) (rollOf G) ≡ false → Refused CodeNotInGroup ≡ submissionVerdict last G clock m
     unfolding submissionVerdict
     submission-unknown t = search refusals
 
-    module _ (k : has code (rollOf G) ≡ true) where
-      pub submission-no-day : quarterExists day quarter ≡ false → Refused NoSuchDay ≡ submissionVerdict last G clock code day quarter value
+    module _ (k : has (m .code) (rollOf G) ≡ true) where
+      pub submission-no-day : quarterExists (m .day) (m .quarter) ≡ false → Refused NoSuchDay ≡ submissionVerdict last G clock m
       unfolding submissionVerdict
       submission-no-day t = search refusals
 
-      module _ (q : quarterExists day quarter ≡ true) where
-        pub submission-cleared : day < G .keptday → Refused DayCleared ≡ submissionVerdict last G clock code day quarter value
+      module _ (q : quarterExists (m .day) (m .quarter) ≡ true) where
+        pub submission-cleared : m .day < G .keptday → Refused DayCleared ≡ submissionVerdict last G clock m
         unfolding submissionVerdict
         submission-cleared h = search refusals depth 8
 
-        module _ (o : G .keptday ≤ day) where
-          pub submission-wrong-sign : signSuits (G .registration .producers) (indexOf code (rollOf G)) value ≡ false
-              → Refused ValueWrong ≡ submissionVerdict last G clock code day quarter value
+        module _ (o : G .keptday ≤ m .day) where
+          pub submission-wrong-sign : signSuits (G .registration .producers) (indexOf (m .code) (rollOf G)) (m .value) ≡ false
+              → Refused ValueWrong ≡ submissionVerdict last G clock m
           unfolding submissionVerdict
           submission-wrong-sign t = search refusals depth 8
 
-          module _ (g : signSuits (G .registration .producers) (indexOf code (rollOf G)) value ≡ true) where
-            pub submission-too-great : 99999999 < natAbs value → Refused ValueWrong ≡ submissionVerdict last G clock code day quarter value
+          module _ (g : signSuits (G .registration .producers) (indexOf (m .code) (rollOf G)) (m .value) ≡ true) where
+            pub submission-too-great : 99999999 < natAbs (m .value) → Refused ValueWrong ≡ submissionVerdict last G clock m
             unfolding submissionVerdict
             submission-too-great h = search refusals depth 10
 
-            module _ (m : natAbs value ≤ 99999999) where
-              pub submission-late : stampMost < clock → Refused ClockOutside ≡ submissionVerdict last G clock code day quarter value
+            module _ (a : natAbs (m .value) ≤ 99999999) where
+              pub submission-late : stampMost < clock → Refused ClockOutside ≡ submissionVerdict last G clock m
               unfolding submissionVerdict
               submission-late h = search refusals depth 12
 
               module _ (c : clock ≤ stampMost) where
-                pub submission-last : last ≡ stampMost → Refused ClockOutside ≡ submissionVerdict last G clock code day quarter value
+                pub submission-last : last ≡ stampMost → Refused ClockOutside ≡ submissionVerdict last G clock m
                 unfolding submissionVerdict
                 submission-last e = search refusals depth 14
 
                 module _ (l : last ≡ stampMost → ⊥) where
-                  pub submission-full : not (repeats last G code day quarter value) && full G ≡ true
-                      → Refused JournalFull ≡ submissionVerdict last G clock code day quarter value
+                  pub submission-full : not (repeats last G m) && full G ≡ true
+                      → Refused JournalFull ≡ submissionVerdict last G clock m
                   unfolding submissionVerdict
                   submission-full t = search refusals depth 16
 
-                  pub submission-accepted : not (repeats last G code day quarter value) && full G ≡ false
-                      → Accepted ≡ submissionVerdict last G clock code day quarter value
+                  pub submission-accepted : not (repeats last G m) && full G ≡ false
+                      → Accepted ≡ submissionVerdict last G clock m
                   unfolding submissionVerdict
                   submission-accepted t = search refusals depth 16
 

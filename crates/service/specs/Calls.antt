@@ -2,7 +2,6 @@
 use Prim.Native.Nat.{ℕ, _+_, _-_, max}
 use mathlib.Core.Bool.{cond}
 use mathlib.Core.List.{List, [], _∷_, _++_}
-use lib.IntN.{ℤ}
 use lib.ListN.{length}
 use Rattle.answers.specs.declared.Verdict.{Verdict}
 use Rattle.answers.specs.declared.Verdict.the-variants.{Accepted, Refused}
@@ -12,7 +11,8 @@ use Rattle.journal.specs.Value.{valueOf, storedOf}
 use Rattle.journal.specs.Readings.{shown, stampOf}
 use Rattle.journal.specs.Entries.{Entry, keep}
 use Rattle.evaluation.specs.Evaluation.{evaluationOf}
-use Rattle.service.specs.Group.{Group, placeFor, readingsOf, Call, Submission, Clear, Evaluation, Seen, After}
+use Rattle.values.specs.declared.Measurement.{Measurement}
+use Rattle.service.specs.Group.{Group, placeFor, readingsOf, readingsFor, Call, Submission, Clear, Evaluation, Seen, After}
 use Rattle.service.specs.Refusals.{repeats, submissionVerdict, clearVerdict, evaluationVerdict}
 
 -- a new entry's stamp: the greater of the clock and the last stamp + 1
@@ -35,17 +35,16 @@ withEntry G e =
     }
 
 -- the entry that a submission appends
-abbrev pub entryOf : Group → (stamp code day quarter : ℕ) → ℤ → Entry
-entryOf G stamp code day quarter value =
-    record { stamp = stamp; place = placeFor G code day quarter; stored = storedOf (valueOf value) }
+abbrev pub entryOf : Group → (stamp : ℕ) → Measurement → Entry
+entryOf G stamp m = record { stamp = stamp; place = placeFor G (m .code) (m .day) (m .quarter); stored = storedOf (valueOf m) }
 
 -- a repeat stores nothing and returns the stamp of the reading shown; otherwise an entry is appended, whose stamp becomes the last stamp
-unfoldable pub submitted : (last : ℕ) → Group → (clock code day quarter : ℕ) → ℤ → After
-submitted last G clock code day quarter value =
+unfoldable pub submitted : (last : ℕ) → Group → (clock : ℕ) → Measurement → After
+submitted last G clock m =
     let new = nextStamp clock last in
-    cond (repeats last G code day quarter value)
-    (record { seen = returned (stampOf (shown last (readingsOf G code day quarter))); last = last; group = G })
-    (record { seen = returned new; last = new; group = withEntry G (entryOf G new code day quarter value) })
+    cond (repeats last G m)
+    (record { seen = returned (stampOf (shown last (readingsFor G m))); last = last; group = G })
+    (record { seen = returned new; last = new; group = withEntry G (entryOf G new m) })
 
 -- a group with another kept day and kept stamp, and the entries that these keep
 abbrev pub clearedGroup : Group → (day stamp : ℕ) → Group
@@ -78,15 +77,15 @@ evaluated last G day quarter T lent =
     }
 
 -- a refused call returns zeros and alters nothing
-abbrev pub unless : Verdict → (last : ℕ) → Group → (lent : List ℕ) → After → After
-unless Accepted last G lent accepted = accepted
-unless (Refused refusal) last G lent accepted =
+abbrev pub whenAccepted : Verdict → (last : ℕ) → Group → (lent : List ℕ) → After → After
+whenAccepted Accepted last G lent accepted = accepted
+whenAccepted (Refused refusal) last G lent accepted =
     record { seen = record { verdict = Refused refusal; number = 0; result = lent }; last = last; group = G }
 
 -- a call on a group under a last stamp
 unfoldable pub step : (last : ℕ) → Group → Call → After
-step last G (Submission clock code day quarter value) =
-    unless (submissionVerdict last G clock code day quarter value) last G [] (submitted last G clock code day quarter value)
-step last G (Clear day stamp) = unless (clearVerdict last G day stamp) last G [] (cleared last G day stamp)
+step last G (Submission clock m) =
+    whenAccepted (submissionVerdict last G clock m) last G [] (submitted last G clock m)
+step last G (Clear day stamp) = whenAccepted (clearVerdict last G day stamp) last G [] (cleared last G day stamp)
 step last G (Evaluation day quarter T lent) =
-    unless (evaluationVerdict last G day quarter T lent) last G lent (evaluated last G day quarter T lent)
+    whenAccepted (evaluationVerdict last G day quarter T lent) last G lent (evaluated last G day quarter T lent)

@@ -2,11 +2,11 @@
 use Prim.Native.Nat.{ℕ}
 use mathlib.Core.Path.{_≡_}
 use mathlib.Core.List.{List}
-use lib.IntN.{ℤ}
 use Rattle.answers.specs.declared.Verdict.{Verdict}
 use Rattle.answers.specs.declared.Verdict.the-variants.{Accepted, Refused}
 use Rattle.registration.specs.declared.Registration.{Registration}
 use Rattle.registration.specs.Damage.{soundness}
+use Rattle.values.specs.declared.Measurement.{Measurement}
 use Rattle.service.specs.declared.Service.{Service}
 use Rattle.service.specs.declared.Fresh.{Fresh}
 use Rattle.service.specs.declared.Submitted.{Submitted}
@@ -37,10 +37,10 @@ abbrev pub evaluatedOf : Seen → Evaluated
 evaluatedOf seen = record { verdict = seen .verdict; rounds = seen .number }
 
 -- a submission leaves record and journal as the definition says, and answers so
-pub record Submits (s : Service) (j : List ℕ) (clock code day quarter : ℕ) (value : ℤ) (s′ : Service) (answer : Submitted) (j′ : List ℕ) : Type 0 where
-  pub service : s′ ≡ callOn s j (Submission clock code day quarter value) .service
-  pub answers : answer ≡ submittedOf (callOn s j (Submission clock code day quarter value) .seen)
-  pub journal : j′ ≡ callOn s j (Submission clock code day quarter value) .journal
+pub record Submits (s : Service) (j : List ℕ) (clock : ℕ) (m : Measurement) (s′ : Service) (answer : Submitted) (j′ : List ℕ) : Type 0 where
+  pub service : s′ ≡ callOn s j (Submission clock m) .service
+  pub answers : answer ≡ submittedOf (callOn s j (Submission clock m) .seen)
+  pub journal : j′ ≡ callOn s j (Submission clock m) .journal
 
 -- a clear leaves record and journal as the definition says, and answers so
 pub record Clears (s : Service) (j : List ℕ) (day stamp : ℕ) (s′ : Service) (answer : Cleared) (j′ : List ℕ) : Type 0 where

@@ -1,9 +1,11 @@
 -- A group as a service holds it, the calls on it, and what a caller sees of a call. The last stamp is not the group's own: it is handed in and
 -- handed back. Assumes nothing.
 use Prim.Native.Nat.{ℕ}
+use mathlib.Core.Bool.{Bool, true, false}
 use mathlib.Core.List.{List, []}
-use lib.IntN.{ℤ}
 use Rattle.answers.specs.declared.Verdict.{Verdict}
+use Rattle.answers.specs.declared.Verdict.the-variants.{Accepted, Refused}
+use Rattle.values.specs.declared.Measurement.{Measurement}
 use Rattle.registration.specs.declared.Registration.{Registration}
 use Rattle.journal.specs.Order.{Reading}
 use Rattle.journal.specs.Entries.{Entry, placeOf, readingsAt}
@@ -40,9 +42,13 @@ placeFor G code day quarter = placeOf (indexOf code (rollOf G)) day quarter
 abbrev pub readingsOf : Group → (code day quarter : ℕ) → List Reading
 readingsOf G code day quarter = readingsAt (G .entries) (placeFor G code day quarter)
 
--- the calls; an evaluation is lent a list for its result
+-- the readings that the journal has for the code, day and quarter of a measurement
+abbrev pub readingsFor : Group → Measurement → List Reading
+readingsFor G m = readingsOf G (m .code) (m .day) (m .quarter)
+
+-- the calls: a submission brings a measurement, an evaluation is lent a list for its result
 pub data Call : Type 0 where
-  Submission : (clock code day quarter : ℕ) → (value : ℤ) → Call
+  Submission : (clock : ℕ) → Measurement → Call
   Clear : (day stamp : ℕ) → Call
   Evaluation : (day quarter T : ℕ) → (lent : List ℕ) → Call
 
@@ -52,6 +58,15 @@ pub record Seen : Type 0 where
   pub verdict : Verdict
   pub number : ℕ
   pub result : List ℕ
+
+-- whether a verdict is a refusal; an accepted call is one not refused
+abbrev pub isRefused : Verdict → Bool
+isRefused Accepted = false
+isRefused (Refused refusal) = true
+
+-- whether a call was refused, from what is seen of it
+abbrev pub refused : Seen → Bool
+refused seen = isRefused (seen .verdict)
 
 -- what a call leaves: what is seen of it, the last stamp and the group
 pub record After : Type 0 where

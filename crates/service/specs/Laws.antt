@@ -1,17 +1,18 @@
 -- What users of the service rely on beside demand 3, stated of its definitions; the proofs stand in proofs/Laws.antt. Assumes nothing.
-use Prim.Native.Nat.{ℕ}
+use Prim.Native.Nat.{ℕ, _+_, _≤_}
 use mathlib.Core.Path.{_≡_}
 use mathlib.Core.Bool.{true}
 use mathlib.Core.List.{List, []}
 use lib.ListN.{length}
+use Rattle.answers.specs.declared.Verdict.the-variants.{Accepted}
 use Rattle.service.specs.declared.Service.{Service}
-use Rattle.service.specs.Group.{Call, Submission, Clear, Evaluation}
+use Rattle.service.specs.Group.{Group, Call, Submission, Clear, Evaluation, refused}
+use Rattle.service.specs.Refusals.{earliest, clearVerdict}
 use Rattle.service.specs.Record.{callOn}
-use Rattle.service.specs.Demand3.{refused}
 
 -- the list that a call is lent for its result
 abbrev pub lentBy : Call → List ℕ
-lentBy (Submission clock code day quarter value) = []
+lentBy (Submission clock m) = []
 lentBy (Clear day stamp) = []
 lentBy (Evaluation day quarter T lent) = lent
 
@@ -37,3 +38,13 @@ abbrev pub EvaluationAltersNothing : Type 0
 EvaluationAltersNothing =
     (s : Service) (j : List ℕ) (day quarter T : ℕ) (lent : List ℕ)
     → (callOn s j (Evaluation day quarter T lent) .service ≡ s) × (callOn s j (Evaluation day quarter T lent) .journal ≡ j)
+
+-- an accepted clear sets neither K nor P back, and P not above the last stamp: what an earlier clear dropped is never asked for again
+abbrev pub ClearGoesOn : Type 0
+ClearGoesOn =
+    (last : ℕ) (G : Group) (day stamp : ℕ) → clearVerdict last G day stamp ≡ Accepted
+    → (G .keptday ≤ day) × (G .keptstamp ≤ stamp) × (stamp ≤ last)
+
+-- no day of the four weeks before one that can be evaluated is cleared
+abbrev pub FourWeeksKept : Type 0
+FourWeeksKept = (K day before : ℕ) → earliest K ≤ day → day ≤ before + 28 → K ≤ before

@@ -2,9 +2,6 @@ pub mod Group
 pub mod Refusals
 pub mod Calls
 pub mod Record
-pub mod Book
-pub mod Lists
-pub mod Demand3
 pub mod Contracts
 pub mod Laws
 pub mod Working

@@ -7,14 +7,19 @@ use Rattle.answers.specs.declared.Verdict.the-variants.{Accepted, Refused}
 use Rattle.registration.specs.declared.Registration.{Registration}
 use Rattle.registration.specs.Damage.{empty}
 use Rattle.journal.specs.Stored.{entries, written}
+use Rattle.service.specs.declared.Numbers.{Numbers}
 use Rattle.service.specs.declared.State.{State}
 use Rattle.service.specs.declared.Service.{Service}
 use Rattle.service.specs.Group.{Group, Call, Seen, After}
 use Rattle.service.specs.Calls.{step}
 
--- no entries, last stamp 0, kept stamp 0, kept day 0
+-- no entries, kept stamp 0, kept day 0
+abbrev pub freshNumbers : Numbers
+freshNumbers = record { «kept_stamp» = 0; «kept_day» = 0; entries = 0 }
+
+-- and last stamp 0
 abbrev pub freshState : State
-freshState = record { last = 0; «kept_stamp» = 0; «kept_day» = 0; entries = 0 }
+freshState = record { last = 0; numbers = freshNumbers }
 
 -- a fresh service is made from a registration alone
 abbrev pub freshService : Registration → Service
@@ -24,26 +29,32 @@ freshService r = record { registration = r; state = freshState }
 abbrev pub zeroService : Service
 zeroService = freshService empty
 
--- the group that record and journal hold
-abbrev pub groupIn : Service → List ℕ → Group
-groupIn s j =
+-- the record of a group, by its registration, the last stamp and its numbers
+abbrev pub recordOf : Registration → (last : ℕ) → Numbers → Service
+recordOf r last numbers = record { registration = r; state = record { last = last; numbers = numbers } }
+
+-- the group that a registration, its numbers and a journal hold
+abbrev pub groupIn : Registration → Numbers → List ℕ → Group
+groupIn r numbers j =
     record {
-      registration = s .registration;
-      keptstamp = s .state .«kept_stamp»;
-      keptday = s .state .«kept_day»;
-      entries = entries (s .state .entries) j;
+      registration = r;
+      keptstamp = numbers .«kept_stamp»;
+      keptday = numbers .«kept_day»;
+      entries = entries (numbers .entries) j;
       room = length j;
     }
 
+-- the group that record and journal hold
+abbrev pub groupOf : Service → List ℕ → Group
+groupOf s j = groupIn (s .registration) (s .state .numbers) j
+
+-- the numbers of a group
+abbrev pub numbersOf : Group → Numbers
+numbersOf G = record { «kept_stamp» = G .keptstamp; «kept_day» = G .keptday; entries = length (G .entries) }
+
 -- the record's changing part, for a last stamp and a group
 abbrev pub stateOf : (last : ℕ) → Group → State
-stateOf last G =
-    record {
-      last = last;
-      «kept_stamp» = G .keptstamp;
-      «kept_day» = G .keptday;
-      entries = length (G .entries);
-    }
+stateOf last G = record { last = last; numbers = numbersOf G }
 
 -- a record with another changing part: the registration stays
 abbrev pub withState : Service → State → Service
@@ -62,11 +73,11 @@ writtenBack Accepted s j after =
     record {
       seen = after .seen;
       service = withState s (stateOf (after .last) (after .group));
-      journal = written (after .group .entries) (s .state .entries - length (after .group .entries)) j;
+      journal = written (after .group .entries) (s .state .numbers .entries - length (after .group .entries)) j;
     }
 
 -- a call on record and journal
 unfoldable pub callOn : Service → List ℕ → Call → Left
 callOn s j call =
-    let after = step (s .state .last) (groupIn s j) call in
+    let after = step (s .state .last) (groupOf s j) call in
     writtenBack (after .seen .verdict) s j after

@@ -2,7 +2,7 @@
 use Prim.Native.Nat.{ℕ, zero, suc, _+_, _*_, _-_}
 use mathlib.Core.Bool.{Bool, not, _&&_, _||_}
 use mathlib.Core.List.{List}
-use lib.IntN.{ℤ, natAbs}
+use lib.IntN.{natAbs}
 use lib.Dec.{ltb, eqb}
 use lib.ListN.{length}
 use Rattle.answers.specs.declared.Verdict.{Verdict}
@@ -17,7 +17,8 @@ use Rattle.journal.specs.Value.{valueOf}
 use Rattle.journal.specs.Readings.{shown, sameAs}
 use Rattle.journal.specs.Damage.{entriesRight}
 use Rattle.points.specs.Points.{indexOf, has, signSuits}
-use Rattle.service.specs.Group.{Group, rollOf, readingsOf}
+use Rattle.values.specs.declared.Measurement.{Measurement}
+use Rattle.service.specs.Group.{Group, rollOf, readingsFor}
 
 -- the greatest stamp and clock
 abbrev pub stampMost : ℕ
@@ -31,25 +32,25 @@ damaged last G =
     || ltb (G .room) (3 * length (G .entries)) || not (entriesRight (length (rollOf G)) (G .keptday) last 0 (G .entries))
 
 -- the submission repeats the reading shown at the last stamp
-abbrev pub repeats : (last : ℕ) → Group → (code day quarter : ℕ) → ℤ → Bool
-repeats last G code day quarter value = sameAs (shown last (readingsOf G code day quarter)) (valueOf value)
+abbrev pub repeats : (last : ℕ) → Group → Measurement → Bool
+repeats last G m = sameAs (shown last (readingsFor G m)) (valueOf m)
 
 -- fewer than 3 numbers are left in the journal
 abbrev pub full : Group → Bool
 full G = ltb (G .room - 3 * length (G .entries)) 3
 
 -- a submission: 15, 8, 9, 11, 10, 13, 14
-unfoldable pub submissionVerdict : (last : ℕ) → Group → (clock code day quarter : ℕ) → ℤ → Verdict
-submissionVerdict last G clock code day quarter value =
+unfoldable pub submissionVerdict : (last : ℕ) → Group → (clock : ℕ) → Measurement → Verdict
+submissionVerdict last G clock m =
     refuse Damaged if damaged last G else
-    refuse CodeNotInGroup if not (has code (rollOf G)) else
-    refuse NoSuchDay if not (quarterExists day quarter) else
-    refuse DayCleared if ltb day (G .keptday) else
-    refuse ValueWrong if not (signSuits (G .registration .producers) (indexOf code (rollOf G)) value) else
-    refuse ValueWrong if ltb 99999999 (natAbs value) else
+    refuse CodeNotInGroup if not (has (m .code) (rollOf G)) else
+    refuse NoSuchDay if not (quarterExists (m .day) (m .quarter)) else
+    refuse DayCleared if ltb (m .day) (G .keptday) else
+    refuse ValueWrong if not (signSuits (G .registration .producers) (indexOf (m .code) (rollOf G)) (m .value)) else
+    refuse ValueWrong if ltb 99999999 (natAbs (m .value)) else
     refuse ClockOutside if ltb stampMost clock else
     refuse ClockOutside if eqb last stampMost else
-    refuse JournalFull if not (repeats last G code day quarter value) && full G else
+    refuse JournalFull if not (repeats last G m) && full G else
     Accepted
 
 -- a clear: 15, 9, 11, 12
@@ -62,10 +63,14 @@ clearVerdict last G day stamp =
     refuse StampOutside if ltb last stamp else
     Accepted
 
+-- how many days before an evaluated one must not be cleared
+abbrev pub daysBefore : ℕ
+daysBefore = 28
+
 -- the earliest day that can be evaluated: with K above 0 the four weeks before it must not be cleared
 unfoldable pub earliest : ℕ → ℕ
 earliest zero = 0
-earliest (suc K) = suc K + 28
+earliest (suc K) = suc K + daysBefore
 
 -- an evaluation: 15, 9, 11, 12, 16
 unfoldable pub evaluationVerdict : (last : ℕ) → Group → (day quarter T : ℕ) → (lent : List ℕ) → Verdict

@@ -3,12 +3,12 @@ use Prim.Native.Nat.{ℕ}
 use mathlib.Core.Path.{_≡_}
 use mathlib.Core.Bool.{true, false, cond}
 use mathlib.Core.Option.{Option}
-use lib.IntN.{ℤ}
 use lib.Dec.{ltb}
 use Rattle.answers.specs.declared.Refusal.{Refusal}
 use Rattle.answers.specs.declared.Refusal.the-variants.{JournalFull}
 use Rattle.answers.specs.declared.Verdict.the-variants.{Accepted, Refused}
-use Rattle.journal.specs.Value.{Value}
+use Rattle.values.specs.declared.Measurement.{Measurement}
+use Rattle.journal.specs.Value.{Value, valueOf, storedOf}
 use Rattle.journal.specs.Order.{Reading}
 use Rattle.journal.specs.Readings.{sameAs, stampOf}
 use Rattle.service.specs.declared.Looked.{Looked}
@@ -18,24 +18,25 @@ use Rattle.service.specs.Calls.{nextStamp, step}
 
 -- what is looked up for a refused submission: zeros
 abbrev pub refusedLook : Refusal → Looked
-refusedLook refusal = record { verdict = Refused refusal; repeat = false; stamp = 0; place = 0 }
+refusedLook refusal = record { verdict = Refused refusal; repeat = false; stamp = 0; place = 0; stored = 0 }
 
--- what is looked up for a submission: its verdict, the stamp that it returns, and if it is accepted whether it is a repeat, and its place
-pub record Looks (last : ℕ) (G : Group) (clock code day quarter : ℕ) (value : ℤ) (looked : Looked) : Type 0 where
-  pub verdict : looked .verdict ≡ submissionVerdict last G clock code day quarter value
-  pub stamp : looked .stamp ≡ step last G (Submission clock code day quarter value) .seen .number
-  pub repeat : looked .verdict ≡ Accepted → looked .repeat ≡ repeats last G code day quarter value
-  pub place : looked .verdict ≡ Accepted → looked .place ≡ placeFor G code day quarter
+-- what is looked up for a submission: its verdict, the stamp that it returns, and if it is accepted whether it is a repeat, and place and number of its entry
+pub record Looks (last : ℕ) (G : Group) (clock : ℕ) (m : Measurement) (looked : Looked) : Type 0 where
+  pub verdict : looked .verdict ≡ submissionVerdict last G clock m
+  pub stamp : looked .stamp ≡ step last G (Submission clock m) .seen .number
+  pub repeat : looked .verdict ≡ Accepted → looked .repeat ≡ repeats last G m
+  pub place : looked .verdict ≡ Accepted → looked .place ≡ placeFor G (m .code) (m .day) (m .quarter)
+  pub stored : looked .verdict ≡ Accepted → looked .stored ≡ storedOf (valueOf m)
 
 -- a new entry needs three numbers of the journal
-abbrev pub newLook : (left clock last place : ℕ) → Looked
-newLook left clock last place =
+abbrev pub newLook : (left clock last place stored : ℕ) → Looked
+newLook left clock last place stored =
     cond (ltb left 3) (refusedLook JournalFull)
-    (record { verdict = Accepted; repeat = false; stamp = nextStamp clock last; place = place })
+    (record { verdict = Accepted; repeat = false; stamp = nextStamp clock last; place = place; stored = stored })
 
 -- a submission that passes all tests but the last: a repeat of the reading shown needs no new entry
 abbrev pub settled : Option Reading → Value → (left clock last place : ℕ) → Looked
 settled old value left clock last place =
     cond (sameAs old value)
-    (record { verdict = Accepted; repeat = true; stamp = stampOf old; place = place })
-    (newLook left clock last place)
+    (record { verdict = Accepted; repeat = true; stamp = stampOf old; place = place; stored = storedOf value })
+    (newLook left clock last place (storedOf value))

@@ -1,19 +1,26 @@
 // The service of one group: readings are submitted, old ones are cleared, quarter hours are evaluated as of any stamp from the kept one on.
 ghost use mathlib.Core.Path.{_≡_};
-ghost use Rattle.service.specs.Record.{zeroService, withState};
+ghost use Rattle.service.specs.Record.{zeroService, recordOf, withState};
 ghost use Rattle.service.specs.Contracts.{freshOf, Submits, Clears, Evaluates};
 use answers::Verdict;
 use registration::Registration;
+use values::Measurement;
 
 mod refusals;
 
-// What changes of the record: the last stamp given, kept stamp P, kept day K, and how many entries the journal has.
+// What is kept of a group beside its registration and its journal: kept stamp P, kept day K, and how many entries the journal has.
 #[repr(C)]
-pub struct State {
-    pub last: u64,
+pub struct Numbers {
     pub kept_stamp: u64,
     pub kept_day: u64,
     pub entries: usize,
+}
+
+// What changes of the record: the last stamp given, which is not the group's own, and the group's numbers.
+#[repr(C)]
+pub struct State {
+    pub last: u64,
+    pub numbers: Numbers,
 }
 
 // The record of a service.
@@ -47,21 +54,23 @@ pub struct Evaluated {
     pub rounds: usize,
 }
 
-// What is looked up for a submission: whether it is a repeat, the stamp that it returns, and its place; zeros where it is refused.
+// What is looked up for a submission: whether it is a repeat, the stamp that it returns, and the place and the number of its entry; zeros where it is
+// refused.
 pub struct Looked {
     pub verdict: Verdict,
     pub repeat: bool,
     pub stamp: u64,
     pub place: u64,
+    pub stored: u64,
 }
 
-// A submission on a record by value: the record's changing part after it, and the answer.
+// What a submission leaves: last stamp and numbers, and the answer.
 pub struct SubmitStep {
     pub state: State,
     pub submitted: Submitted,
 }
 
-// A clear on a record by value: the record's changing part after it, and the answer.
+// What a clear leaves: last stamp and numbers, and the answer.
 pub struct ClearStep {
     pub state: State,
     pub cleared: Cleared,
@@ -82,9 +91,11 @@ impl Service {
             registration: Registration::empty(),
             state: State {
                 last: 0,
-                kept_stamp: 0,
-                kept_day: 0,
-                entries: 0,
+                numbers: Numbers {
+                    kept_stamp: 0,
+                    kept_day: 0,
+                    entries: 0,
+                },
             },
         }
     }
@@ -107,39 +118,19 @@ impl Service {
         self,
         journal: &mut [u64],
         clock: u64,
-        code: u64,
-        day: u64,
-        quarter: u64,
-        value: i64,
+        measurement: Measurement,
     ) -> SubmitStep
-        ensures { λ r. ⌜ Submits self (now (journal .entry)) clock code day quarter value (withState self (r .state)) (r .submitted) (now (journal .exit)) ⌝ }
+        ensures { λ r. ⌜ Submits self (now (journal .entry)) clock measurement (withState self (r .state)) (r .submitted) (now (journal .exit)) ⌝ }
     {
         let state = self.state;
-        let looked = refusals::look(self, journal, clock, code, day, quarter, value);
-        let verdict = looked.verdict;
-        let stamp = looked.stamp;
-        let submitted = Submitted { verdict, stamp };
-        if let Verdict::Refused(refusal) = verdict {
-            return SubmitStep { state, submitted };
-        }
-        if looked.repeat {
-            return SubmitStep { state, submitted };
-        }
-        let count = state.entries;
-        let kept_stamp = state.kept_stamp;
-        let kept_day = state.kept_day;
-        let magnitude = points::magnitude(value);
-        journal::put(journal, count, stamp, looked.place, magnitude);
-        let entries = count + 1;
-        SubmitStep {
-            state: State {
-                last: stamp,
-                kept_stamp,
-                kept_day,
-                entries,
-            },
-            submitted,
-        }
+        submit(
+            self.registration,
+            state.last,
+            state.numbers,
+            journal,
+            clock,
+            measurement,
+        )
     }
 
     // A clear on a record by value.
@@ -147,31 +138,14 @@ impl Service {
         ensures { λ r. ⌜ Clears self (now (journal .entry)) day stamp (withState self (r .state)) (r .cleared) (now (journal .exit)) ⌝ }
     {
         let state = self.state;
-        let verdict = refusals::clear_verdict(self, journal, day, stamp);
-        if let Verdict::Refused(refusal) = verdict {
-            return ClearStep {
-                state,
-                cleared: Cleared {
-                    verdict,
-                    dropped: 0,
-                },
-            };
-        }
-        let last = state.last;
-        let count = state.entries;
-        let registration = self.registration;
-        let points = registration.producers + registration.consumers;
-        let entries = journal_clear::keep(journal, count, points as u64, day, stamp);
-        let dropped = count - entries;
-        ClearStep {
-            state: State {
-                last,
-                kept_stamp: stamp,
-                kept_day: day,
-                entries,
-            },
-            cleared: Cleared { verdict, dropped },
-        }
+        clear(
+            self.registration,
+            state.last,
+            state.numbers,
+            journal,
+            day,
+            stamp,
+        )
     }
 
     // The evaluation of a quarter hour as of a stamp: the result list gets pair shares, remaining withdrawals and remaining supplies.
@@ -185,20 +159,133 @@ impl Service {
     ) -> Evaluated
         ensures { λ r. ⌜ Evaluates self (now (journal .entry)) day quarter until (now (result .entry)) r (now (result .exit)) ⌝ }
     {
-        let verdict = refusals::evaluation_verdict(self, journal, day, quarter, until, result);
-        if let Verdict::Refused(refusal) = verdict {
-            return Evaluated { verdict, rounds: 0 };
-        }
-        let count = self.state.entries;
-        let rounds = evaluation::evaluate(
+        let state = self.state;
+        evaluate(
             self.registration,
+            state.last,
+            state.numbers,
             journal,
-            count,
             day,
             quarter,
             until,
             result,
-        );
-        Evaluated { verdict, rounds }
+        )
     }
+}
+
+// A submission on a group, given by its registration, the last stamp, its numbers and its journal, which is altered in place.
+pub fn submit(
+    registration: Registration,
+    last: u64,
+    numbers: Numbers,
+    journal: &mut [u64],
+    clock: u64,
+    measurement: Measurement,
+) -> SubmitStep
+    ensures { λ r. ⌜ Submits (recordOf registration last numbers) (now (journal .entry)) clock measurement (withState (recordOf registration last numbers) (r .state)) (r .submitted) (now (journal .exit)) ⌝ }
+{
+    let looked = refusals::look(registration, last, numbers, journal, clock, measurement);
+    let verdict = looked.verdict;
+    let stamp = looked.stamp;
+    let submitted = Submitted { verdict, stamp };
+    let state = State { last, numbers };
+    if let Verdict::Refused(refusal) = verdict {
+        return SubmitStep { state, submitted };
+    }
+    if looked.repeat {
+        return SubmitStep { state, submitted };
+    }
+    let count = numbers.entries;
+    let kept_stamp = numbers.kept_stamp;
+    let kept_day = numbers.kept_day;
+    journal::put(journal, count, stamp, looked.place, looked.stored);
+    let entries = count + 1;
+    SubmitStep {
+        state: State {
+            last: stamp,
+            numbers: Numbers {
+                kept_stamp,
+                kept_day,
+                entries,
+            },
+        },
+        submitted,
+    }
+}
+
+// A clear on a group.
+pub fn clear(
+    registration: Registration,
+    last: u64,
+    numbers: Numbers,
+    journal: &mut [u64],
+    day: u64,
+    stamp: u64,
+) -> ClearStep
+    ensures { λ r. ⌜ Clears (recordOf registration last numbers) (now (journal .entry)) day stamp (withState (recordOf registration last numbers) (r .state)) (r .cleared) (now (journal .exit)) ⌝ }
+{
+    let verdict = refusals::clear_verdict(registration, last, numbers, journal, day, stamp);
+    if let Verdict::Refused(refusal) = verdict {
+        return ClearStep {
+            state: State { last, numbers },
+            cleared: Cleared {
+                verdict,
+                dropped: 0,
+            },
+        };
+    }
+    let count = numbers.entries;
+    let points = registration.producers + registration.consumers;
+    let entries = journal_clear::keep(journal, count, points as u64, day, stamp);
+    let dropped = count - entries;
+    ClearStep {
+        state: State {
+            last,
+            numbers: Numbers {
+                kept_stamp: stamp,
+                kept_day: day,
+                entries,
+            },
+        },
+        cleared: Cleared { verdict, dropped },
+    }
+}
+
+// The evaluation of a quarter hour of a group.
+pub fn evaluate(
+    registration: Registration,
+    last: u64,
+    numbers: Numbers,
+    journal: &[u64],
+    day: u64,
+    quarter: u64,
+    until: u64,
+    result: &mut [u64],
+) -> Evaluated
+    ensures { λ r. ⌜ Evaluates (recordOf registration last numbers) (now (journal .entry)) day quarter until (now (result .entry)) r (now (result .exit)) ⌝ }
+{
+    let verdict = refusals::evaluation_verdict(
+        registration,
+        last,
+        numbers,
+        journal,
+        day,
+        quarter,
+        until,
+        result,
+    );
+    if let Verdict::Refused(refusal) = verdict {
+        return Evaluated { verdict, rounds: 0 };
+    }
+    let count = numbers.entries;
+    let rounds = evaluation::evaluate(
+        registration,
+        journal,
+        count,
+        day,
+        quarter,
+        until,
+        result,
+    );
+    Evaluated { verdict, rounds }
 }

@@ -47,7 +47,8 @@ int main(void) {
     uint64_t journal[30] = {0};
     for (size_t i = 0; i < sizeof readings / sizeof readings[0]; i++) {
         struct reading r = readings[i];
-        struct share_submit_answer a = share_submit(&service, journal, 30, r.clock, r.code, date.day, 1, r.value);
+        struct share_measurement m = {.code = r.code, .day = date.day, .quarter = 1, .value = r.value};
+        struct share_submit_answer a = share_submit(&service, journal, 30, r.clock, m);
         printf("A%4" PRIu64 "%13" PRIu64 "\n", a.answer, a.stamp);
     }
     uint64_t result[SHARE_RESULT_MOST];

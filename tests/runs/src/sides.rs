@@ -42,9 +42,11 @@ pub fn lent_registration(of: &Registration) -> share_library::Registration {
 pub fn lent_state(of: &State) -> share_library::State {
     share_library::State {
         last: of.last,
-        kept_stamp: of.kept_stamp,
-        kept_day: of.kept_day,
-        entries: of.entries,
+        numbers: share_library::Numbers {
+            kept_stamp: of.kept_stamp,
+            kept_day: of.kept_day,
+            entries: of.entries,
+        },
     }
 }
 
@@ -79,7 +81,13 @@ pub fn through_library(
             quarter,
             value,
         } => {
-            let given = calls::submit(service, journal, clock, code, day, quarter, value);
+            let measurement = share_library::Measurement {
+                code,
+                day,
+                quarter,
+                value,
+            };
+            let given = calls::submit(service, journal, clock, measurement);
             (given.answer, given.stamp)
         }
         Event::Clear { day, stamp } => {

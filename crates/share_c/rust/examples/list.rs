@@ -1,6 +1,6 @@
 //! Case LIST through the static library: a group is read, three readings are submitted, and their quarter hour is evaluated.
 
-use share_library::{Refusal, Registration, Service, RESULT_MOST};
+use share_library::{Measurement, Refusal, Registration, Service, RESULT_MOST};
 
 const TEXT: &str = "\
 G   1   2 1
@@ -22,7 +22,13 @@ fn main() -> Result<(), Refusal> {
     let day = share_library::day(20240102)?;
     let mut journal = [0; 30];
     for (clock, code, value) in READINGS {
-        let stamp = service.submit(&mut journal, clock, code, day, 1, value)?;
+        let measurement = Measurement {
+            code,
+            day,
+            quarter: 1,
+            value,
+        };
+        let stamp = service.submit(&mut journal, clock, measurement)?;
         println!("A{:4}{stamp:13}", 0);
     }
     let mut result = [0; RESULT_MOST];

@@ -2,7 +2,7 @@
 //! number of its refusal, with zeros beside it. The caller owns record, journal, result list and buffer, and lends them
 //! for the length of a call.
 
-use crate::{Registration, Service};
+use crate::{Measurement, Registration, Service};
 
 /// The answer of `read`: the registration, zeros where it is refused.
 #[repr(C)]
@@ -69,10 +69,7 @@ extern "C" {
         journal: *mut u64,
         journal_length: usize,
         clock: u64,
-        code: u64,
-        day: u64,
-        quarter: u64,
-        value: i64,
+        measurement: Measurement,
     ) -> Submitted;
     fn share_clear(service: &mut Service, journal: *mut u64, journal_length: usize, day: u64, stamp: u64) -> Cleared;
     fn share_evaluate(
@@ -106,27 +103,8 @@ pub fn fresh(registration: &Registration) -> Fresh {
 }
 
 /// A submission: record and journal are altered in place.
-pub fn submit(
-    service: &mut Service,
-    journal: &mut [u64],
-    clock: u64,
-    code: u64,
-    day: u64,
-    quarter: u64,
-    value: i64,
-) -> Submitted {
-    unsafe {
-        share_submit(
-            service,
-            journal.as_mut_ptr(),
-            journal.len(),
-            clock,
-            code,
-            day,
-            quarter,
-            value,
-        )
-    }
+pub fn submit(service: &mut Service, journal: &mut [u64], clock: u64, measurement: Measurement) -> Submitted {
+    unsafe { share_submit(service, journal.as_mut_ptr(), journal.len(), clock, measurement) }
 }
 
 /// A clear: record and journal are altered in place.

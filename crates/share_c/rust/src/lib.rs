@@ -31,14 +31,31 @@ pub struct Registration {
     pub keys: [u16; 320],
 }
 
-/// What changes of a service's record: last stamp given, kept stamp, kept day, and how many entries the journal has.
+/// What is kept of a group beside its registration: kept stamp, kept day, and how many entries the journal has.
+#[repr(C)]
+#[derive(Clone, Copy, PartialEq, Eq, Debug)]
+pub struct Numbers {
+    pub kept_stamp: u64,
+    pub kept_day: u64,
+    pub entries: usize,
+}
+
+/// What changes of a service's record: the last stamp given, and the group's numbers.
 #[repr(C)]
 #[derive(Clone, Copy, PartialEq, Eq, Debug)]
 pub struct State {
     pub last: u64,
-    pub kept_stamp: u64,
-    pub kept_day: u64,
-    pub entries: usize,
+    pub numbers: Numbers,
+}
+
+/// What a submission brings: the value of a code's point for a quarter hour of a day.
+#[repr(C)]
+#[derive(Clone, Copy, PartialEq, Eq, Debug)]
+pub struct Measurement {
+    pub code: u64,
+    pub day: u64,
+    pub quarter: u64,
+    pub value: i64,
 }
 
 /// The record of a service.
@@ -70,17 +87,9 @@ impl Service {
         Refusal::unless(fresh.answer, fresh.service)
     }
 
-    /// Submits a reading, and tells its stamp.
-    pub fn submit(
-        &mut self,
-        journal: &mut [u64],
-        clock: u64,
-        code: u64,
-        day: u64,
-        quarter: u64,
-        value: i64,
-    ) -> Result<u64, Refusal> {
-        let submitted = calls::submit(self, journal, clock, code, day, quarter, value);
+    /// Submits a measurement, and tells the stamp of its reading.
+    pub fn submit(&mut self, journal: &mut [u64], clock: u64, measurement: Measurement) -> Result<u64, Refusal> {
+        let submitted = calls::submit(self, journal, clock, measurement);
         Refusal::unless(submitted.answer, submitted.stamp)
     }
 

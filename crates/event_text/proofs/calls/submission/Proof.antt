@@ -2,6 +2,7 @@
 use Prim.Native.Nat.{ℕ}
 use Rattle.service.specs.Group.{Submission as Submit}
 use Rattle.event_reader.specs.declared.Event.the-variants.{Submission}
+use Rattle.event_text.specs.Replies.{measured}
 use Rattle.event_text.proofs.Replying.{no-call, replies-refusal, replies-submission}
 use borrow.Author.Needs.{needs}
 use Rattle.event_text.proofs.calls.submission.Statement.{statement}
@@ -28,7 +29,7 @@ returns c =
     let told = put .before .before in
     let day = told .before .before in
     let a = day .before .before .before .args in
-    let none = no-call (a .date) (λ (day : ℕ). Submit (a .clock) (a .code) day (a .quarter) (a .value)) (day .day-of .ensures) (told .enum-told .given .1) in
+    let none = no-call (a .date) (λ (day : ℕ). Submit (a .clock) (measured (a .code) (a .quarter) (a .value) day)) (day .day-of .ensures) (told .enum-told .given .1) in
     replies-refusal _ _ (Submission (a .clock) (a .code) (a .date) (a .quarter) (a .value)) none (put .no-call .ensures .0) (put .no-call .ensures .1)
 
 submit-value-requires : tie.Need-submit-value-requires

@@ -14,7 +14,7 @@ abbrev begin-1 : tie.Else1 → tie.Start
 begin-1 c = c .before .before .before
 
 abbrev to-1 : tie.Else2 → tie.Else1
-to-1 c = c .before .before
+to-1 c = c .before
 
 abbrev to-2 : tie.Else3 → tie.Else2
 to-2 c = c .before .before
@@ -23,7 +23,7 @@ abbrev to-3 : tie.Else4 → tie.Else3
 to-3 c = c .before .before
 
 -- past the first test nothing is damaged
-undamaged-there : (c : tie.Else1) → let a = begin-1 c .args in damaged (a .service .state .last) (groupIn (a .service) (a .journal .now)) ≡ false
+undamaged-there : (c : tie.Else1) → let a = begin-1 c .args in damaged (a .last) (groupIn (a .registration) (a .numbers) (a .journal .now)) ≡ false
 undamaged-there c = sym (c .before .damaged .ensures) ∙ c .if1 .left
 
 damaged-requires : tie.Need-damaged-requires
@@ -34,7 +34,7 @@ returns c = clear-damaged _ _ _ _ (sym (c .before .damaged .ensures) ∙ c .if1 
 
 returns-2 : tie.Need-returns-2
 returns-2 c =
-    let past = c .before .before in
+    let past = c .before in
     clear-no-day _ _ _ _ (undamaged-there past) (lt-leb _ _ (c .if2 .taken))
 
 returns-3 : tie.Need-returns-3
@@ -49,12 +49,12 @@ returns-4 c =
 
 returns-5 : tie.Need-returns-5
 returns-5 c =
-    let past = c .before .before in
+    let past = c .before in
     clear-above _ _ _ _ (undamaged-there (to-1 (to-2 (to-3 past)))) (le-leb _ _ ((to-2 (to-3 past)) .if2 .left)) ((to-3 past) .if3 .left) (past .if4 .left) (c .if5 .taken)
 
 returns-6 : tie.Need-returns-6
 returns-6 c =
-    let past = c .before .before in
+    let past = c .before in
     clear-accepted _ _ _ _ (undamaged-there (to-1 (to-2 (to-3 past)))) (le-leb _ _ ((to-2 (to-3 past)) .if2 .left)) ((to-3 past) .if3 .left) (past .if4 .left) (c .if5 .left)
 
 pub clear-verdict-spec : {M : Type 1} → statement M

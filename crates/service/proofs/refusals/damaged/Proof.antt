@@ -16,13 +16,13 @@ abbrev past-first : tie.Else5 → tie.Else1
 past-first c = c .before .before .before .before .before
 
 -- the registration is not damaged
-undamaged-there : (c : tie.Else5) → isDamaged (past-first c .before .before .before .before .before .args .service .registration) ≡ false
+undamaged-there : (c : tie.Else5) → isDamaged (past-first c .before .before .before .args .registration) ≡ false
 undamaged-there c = sym (past-first c .before .damaged .ensures) ∙ past-first c .if1 .left
 
 -- so the group has at most 64 points
 few-points : (c : tie.Else5)
-    → past-first c .before .before .before .before .before .args .service .registration .producers
-    + past-first c .before .before .before .before .before .args .service .registration .consumers ≤ 64
+    → past-first c .before .before .before .args .registration .producers
+    + past-first c .before .before .before .args .registration .consumers ≤ 64
 few-points c = point-bounds _ _ (undamaged-parts _ (undamaged-there c) .point-counts) .2
 
 damaged-requires : tie.Need-damaged-requires
@@ -43,8 +43,8 @@ returns-4 c = damaged-by _ _ (λ k. omega (arith, k .kept-day, c .if4 .taken))
 returns-5 : tie.Need-returns-5
 returns-5 c =
     damaged-by _ _ (λ k.
-    let a = c .before .before .before .before .before .before .before .before .before .before .args in
-    omega (arith, k .fits, c .if5 .taken, length-entries (a .service .state .entries) (a .journal .now)))
+    let a = c .before .before .before .before .before .before .before .before .args in
+    omega (arith, k .fits, c .if5 .taken, length-entries (a .numbers .entries) (a .journal .now)))
 
 add-points : tie.Need-add-points
 add-points c = omega (arith, few-points (c .before))
@@ -57,8 +57,8 @@ right-requires c κs =
 returns-6 : tie.Need-returns-6
 returns-6 c =
     let e = c .before .before in
-    let a = past-first e .before .before .before .before .before .args in
-    let n = length-entries (a .service .state .entries) (a .journal .now) in
+    let a = past-first e .before .before .before .args in
+    let n = length-entries (a .numbers .entries) (a .journal .now) in
     damaged-entries _ _ (undamaged-there e) (omega arith) (omega arith) (omega arith) (omega (arith, n, e .if5 .left)) _ (c .right .ensures)
 
 pub damaged-spec : {M : Type 1} → statement M

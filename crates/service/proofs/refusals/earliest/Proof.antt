@@ -1,13 +1,13 @@
 -- `service::refusals::earliest` meets its contract. Assumes nothing.
 use Prim.Native.Nat.{ℕ, zero, suc, _+_}
 use mathlib.Core.Path.{_≡_, refl}
-use Rattle.service.specs.Refusals.{earliest}
+use Rattle.service.specs.Refusals.{daysBefore, earliest}
 use borrow.Author.Needs.{needs}
 use Rattle.service.proofs.refusals.earliest.Statement.{statement}
 use Rattle.service.proofs.refusals.earliest.Tie as tie
 
 -- with a kept day above 0 it is four weeks later
-earliest-some : (K : ℕ) → (K ≡ 0 → ⊥) → K + 28 ≡ earliest K
+earliest-some : (K : ℕ) → (K ≡ 0 → ⊥) → K + daysBefore ≡ earliest K
 unfolding earliest
 earliest-some zero n = absurd (n refl)
 earliest-some (suc K) n = refl

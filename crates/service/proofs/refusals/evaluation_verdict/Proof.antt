@@ -18,7 +18,7 @@ abbrev begin-1 : tie.Else1 → tie.Start
 begin-1 c = c .before .before .before .before
 
 abbrev to-1 : tie.Else2 → tie.Else1
-to-1 c = c .before .before .before
+to-1 c = c .before .before
 
 abbrev to-2 : tie.Else3 → tie.Else2
 to-2 c = c .before .before
@@ -27,10 +27,10 @@ abbrev to-3 : tie.Else4 → tie.Else3
 to-3 c = c .before .before
 
 abbrev to-4 : tie.Else5 → tie.Else4
-to-4 c = c .before .before
+to-4 c = c .before
 
 -- past the first test nothing is damaged
-undamaged-there : (c : tie.Else1) → let a = begin-1 c .args in damaged (a .service .state .last) (groupIn (a .service) (a .journal .now)) ≡ false
+undamaged-there : (c : tie.Else1) → let a = begin-1 c .args in damaged (a .last) (groupIn (a .registration) (a .numbers) (a .journal .now)) ≡ false
 undamaged-there c = sym (c .before .damaged .ensures) ∙ c .if1 .left
 
 -- past the second the day has the quarter
@@ -38,7 +38,7 @@ there-is : (c : tie.Else2) → let a = begin-1 (to-1 c) .args in quarterExists (
 there-is c = sym (c .before .exists .ensures) ∙ not-false _ (c .if2 .left)
 
 -- past the third the four weeks before the day are not cleared
-not-cleared : (c : tie.Else3) → let a = begin-1 (to-1 (to-2 c)) .args in earliest (a .service .state .«kept_day») ≤ a .day
+not-cleared : (c : tie.Else3) → let a = begin-1 (to-1 (to-2 c)) .args in earliest (a .numbers .«kept_day») ≤ a .day
 not-cleared c = rw (← c .before .earliest .ensures) (c .if3 .left)
 
 damaged-requires : tie.Need-damaged-requires
@@ -52,11 +52,11 @@ exists-requires c κs = search needs
 
 returns-2 : tie.Need-returns-2
 returns-2 c =
-    let past = c .before .before .before in
+    let past = c .before .before in
     evaluation-no-day _ _ _ _ _ _ (undamaged-there past) (sym (c .before .exists .ensures) ∙ not-true _ (c .if2 .taken))
 
 earliest-requires : tie.Need-earliest-requires
-earliest-requires c κs = undamaged-sound _ _ (undamaged-there (c .before .before .before)) .kept-day
+earliest-requires c κs = undamaged-sound _ _ (undamaged-there (to-1 c)) .kept-day
 
 returns-3 : tie.Need-returns-3
 returns-3 c =
@@ -70,22 +70,20 @@ returns-4 c =
 
 returns-5 : tie.Need-returns-5
 returns-5 c =
-    let past = c .before .before in
+    let past = c .before in
     evaluation-above _ _ _ _ _ _ (undamaged-there (to-1 (to-2 (to-3 past)))) (there-is (to-2 (to-3 past))) (not-cleared (to-3 past)) (past .if4 .left) (c .if5 .taken)
 
 size-requires : tie.Need-size-requires
-size-requires c κs =
-    let past = c .before in
-    few-points _ _ (undamaged-sound _ _ (undamaged-there (to-1 (to-2 (to-3 (to-4 past))))))
+size-requires c κs = few-points _ _ (undamaged-sound _ _ (undamaged-there (to-1 (to-2 (to-3 (to-4 c))))))
 
 returns-6 : tie.Need-returns-6
 returns-6 c =
-    let past = c .before .before .before in
+    let past = c .before .before in
     evaluation-short _ _ _ _ _ _ (undamaged-there (to-1 (to-2 (to-3 (to-4 past))))) (there-is (to-2 (to-3 (to-4 past)))) (not-cleared (to-3 (to-4 past))) ((to-4 past) .if4 .left) (past .if5 .left) (rw (← c .before .size .ensures) (c .if6 .taken))
 
 returns-7 : tie.Need-returns-7
 returns-7 c =
-    let past = c .before .before .before in
+    let past = c .before .before in
     evaluation-accepted _ _ _ _ _ _ (undamaged-there (to-1 (to-2 (to-3 (to-4 past))))) (there-is (to-2 (to-3 (to-4 past)))) (not-cleared (to-3 (to-4 past))) ((to-4 past) .if4 .left) (past .if5 .left) (rw (← c .before .size .ensures) (c .if6 .left))
 
 pub evaluation-verdict-spec : {M : Type 1} → statement M

@@ -16,7 +16,7 @@ enum-known-old c = search needs
 returns : tie.Need-returns
 returns c =
     let a = c .before .before .before .before .args in
-    settled-repeat (a .old) (a .magnitude) (a .left) (a .clock) (a .last) (a .place) (c .before .before .old .given .0 .0) (c .before .before .old .given .0 .1 .0) (search) (c .if1 .taken)
+    settled-repeat (a .old) (a .stored) (a .left) (a .clock) (a .last) (a .place) (c .before .before .old .given .0 .0) (c .before .before .old .given .0 .1 .0) (search) (c .if1 .taken)
 
 look-new-requires-2 : tie.Need-look-new-requires-2
 look-new-requires-2 c κs = search needs
@@ -24,12 +24,12 @@ look-new-requires-2 c κs = search needs
 returns-2 : tie.Need-returns-2
 returns-2 c =
     let a = c .before .before .before .args in
-    settled-none (a .old) (a .magnitude) (a .left) (a .clock) (a .last) (a .place) _ (search) (c .look-new .ensures)
+    settled-none (a .old) (a .stored) (a .left) (a .clock) (a .last) (a .place) _ (search) (c .look-new .ensures)
 
 returns-3 : tie.Need-returns-3
 returns-3 c =
     let a = c .before .before .before .before .before .args in
-    settled-other (a .old) (a .magnitude) (a .left) (a .clock) (a .last) (a .place) (c .before .before .before .old .given .0 .0) (c .before .before .before .old .given .0 .1 .0) (search) _ (c .before .if1 .left) (c .look-new2 .ensures)
+    settled-other (a .old) (a .stored) (a .left) (a .clock) (a .last) (a .place) (c .before .before .before .old .given .0 .0) (c .before .before .before .old .given .0 .1 .0) (search) _ (c .before .if1 .left) (c .look-new2 .ensures)
 
 pub settle-spec : {M : Type 1} → statement M
 settle-spec =

@@ -5,7 +5,7 @@ use mathlib.Core.Path.{_≡_, ap}
 use mathlib.Core.Bool.{Bool, true, false}
 use mathlib.Core.Logic.{_≢_}
 use mathlib.Core.List.{List}
-use lib.IntN.{ℤ}
+use Rattle.values.specs.declared.Measurement.{Measurement}
 use Rattle.answers.specs.declared.Refusal.{Refusal}
 use Rattle.answers.specs.declared.Refusal.the-variants.{CodeNotInGroup, NoSuchDay, ValueWrong, DayCleared, StampOutside, ClockOutside}
 use Rattle.answers.specs.declared.Refusal.the-variants.{JournalFull, Damaged, TooShort}
@@ -33,9 +33,9 @@ accepted e = omega (arith, ap answerOf e)
 
 -- the three orders of refusals, of an undamaged group
 module _ (last : ℕ) (G : Group) (none : damaged last G ≡ false) where
-  pub submission-not-15 : (clock code day quarter : ℕ) (value : ℤ) → submissionVerdict last G clock code day quarter value ≢ Refused Damaged
+  pub submission-not-15 : (clock : ℕ) (m : Measurement) → submissionVerdict last G clock m ≢ Refused Damaged
   unfolding submissionVerdict
-  submission-not-15 clock code day quarter value =
+  submission-not-15 clock m =
       first _ _ none
       (other CodeNotInGroup _ _ (omega arith) (other NoSuchDay _ _ (omega arith) (other DayCleared _ _ (omega arith)
       (other ValueWrong _ _ (omega arith) (other ValueWrong _ _ (omega arith) (other ClockOutside _ _ (omega arith)

@@ -4,13 +4,14 @@ use native.Mathlib.Omega.{arith}
 use mathlib.Core.Path.{_≡_, refl}
 use mathlib.Core.Bool.{false}
 use Rattle.registration.specs.declared.Registration.{Registration}
+use Rattle.values.specs.declared.Measurement.{Measurement}
 use Rattle.registration.specs.Damage.{isDamaged}
 use Rattle.journal.specs.Readings.{shown}
 use Rattle.journal.specs.Damage.{entriesRight}
 use Rattle.journal.proofs.ShownLaws.{Under, shown-all}
 use Rattle.service.specs.Group.{Group, freshGroup, readingsOf}
-use Rattle.service.specs.Book.{Page, newBook, noted, newestNoted}
+use Rattle.demand3.specs.Book.{Page, newBook, noted, newestNoted}
 use Rattle.service.proofs.Sound.{Sound}
 
 -- a quarter hour and a stamp that are not cleared
 pub record Open (G : Group) (day quarter T : ℕ) : Type 0 where
@@ -46,6 +47,7 @@ related-fresh r room h =
     }
 
 -- the newest reading noted is the one shown at the last stamp
-pub newest-shown : (last : ℕ) (G : Group) (page : Page) → Related last G page → (code day quarter : ℕ)
-    → shown last (noted page code day quarter) ≡ newestNoted page code day quarter
-newest-shown last G page rel code day quarter = shown-all last (noted page code day quarter) (rel .in-time code day quarter last (omega arith))
+pub newest-shown : (last : ℕ) (G : Group) (page : Page) → Related last G page → (m : Measurement)
+    → shown last (noted page (m .code) (m .day) (m .quarter)) ≡ newestNoted page m
+newest-shown last G page rel m =
+    shown-all last (noted page (m .code) (m .day) (m .quarter)) (rel .in-time (m .code) (m .day) (m .quarter) last (omega arith))

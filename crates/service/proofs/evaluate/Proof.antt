@@ -1,9 +1,9 @@
--- `service::Service::evaluate` meets its contract. Assumes nothing.
+-- `service::evaluate` meets its contract. Assumes nothing.
 use mathlib.Core.Path.{sym, _∙_}
 use Rattle.service.proofs.Cores.{evaluation-asked, evaluates-refused, evaluates-accepted}
 use borrow.Author.Needs.{needs}
-use Rattle.service.proofs.Service.evaluate.Statement.{statement}
-use Rattle.service.proofs.Service.evaluate.Tie as tie
+use Rattle.service.proofs.evaluate.Statement.{statement}
+use Rattle.service.proofs.evaluate.Tie as tie
 
 evaluation-verdict-requires : tie.Need-evaluation-verdict-requires
 evaluation-verdict-requires c κs = search needs

@@ -7,7 +7,7 @@ use Rattle.journal.specs.Order.{Reading}
 use Rattle.journal.specs.Readings.{those}
 use Rattle.journal.proofs.Those.{those-append, map-append}
 use Rattle.journal.proofs.ShownLaws.{Under}
-use Rattle.service.specs.Book.{Page, Note, isFor, noted, withNote}
+use Rattle.demand3.specs.Book.{Page, Note, isFor, noted, withNote}
 
 -- the readings that a new note adds for a code, day and quarter: its own, or none
 pub noted-more : (page : Page) (note : Note) (code day quarter : ℕ)

@@ -12,9 +12,9 @@ use Rattle.allocation.proofs.Laws.{result-lengths}
 use Rattle.registration.specs.Rules.{codeAt, statusAt}
 use Rattle.evaluation.specs.Substitutes.{magnitudeOf}
 use Rattle.evaluation.specs.Evaluation.{evaluationOf}
 use Rattle.service.specs.Group.{Seen}
-use Rattle.service.specs.Book.{Book, noted, bookResult}
-use Rattle.service.specs.Demand3.{part, Gives, SameResult}
+use Rattle.demand3.specs.Book.{Book, noted, bookResult}
+use Rattle.demand3.specs.Demand3.{part, Gives, SameResult}
 
 -- the middle one of three lists put together
 part-of : (first second third : List ℕ) (at : ℕ) → length first ≡ at → part at (length second) (first ++ (second ++ third)) ≡ second

@@ -1,44 +1,34 @@
 -- Demand 3: one claim about every list of calls on a fresh service. Its proof stands in proofs/Demand3.antt. Assumes nothing.
 use Prim.Native.Nat.{ℕ, _+_}
 use mathlib.Core.Path.{_≡_}
-use mathlib.Core.Bool.{Bool, true, false}
+use mathlib.Core.Bool.{false}
 use mathlib.Core.List.{List}
 use mathlib.Core.Logic.{_≢_}
 use lib.ListN.{length, take, drop}
-use Rattle.answers.specs.declared.Verdict.{Verdict}
-use Rattle.answers.specs.declared.Verdict.the-variants.{Accepted, Refused}
+use Rattle.answers.specs.declared.Verdict.the-variants.{Refused}
 use Rattle.answers.specs.declared.Refusal.the-variants.{Damaged}
 use Rattle.registration.specs.declared.Registration.{Registration}
 use Rattle.registration.specs.Damage.{isDamaged}
 use Rattle.allocation.specs.Result.{Allocation, pairsIn}
 use Rattle.service.specs.declared.Service.{Service}
-use Rattle.service.specs.Group.{Call, Submission, Clear, Evaluation, Seen}
+use Rattle.service.specs.Group.{Call, Submission, Clear, Evaluation, Seen, refused}
 use Rattle.service.specs.Record.{freshService, callOn}
-use Rattle.service.specs.Book.{Book, newBook, bookStamp, bookAfter, bookResult}
-use Rattle.service.specs.Lists.{run, AllRight, Made}
-
--- whether a call was refused; an accepted call is one not refused
-abbrev pub isRefused : Verdict → Bool
-isRefused Accepted = false
-isRefused (Refused refusal) = true
-
--- the same of what is seen of a call
-abbrev pub refused : Seen → Bool
-refused seen = isRefused (seen .verdict)
+use Rattle.demand3.specs.Book.{Book, newBook, bookStamp, bookAfter, bookResult}
+use Rattle.demand3.specs.Lists.{run, AllRight, Made}
 
 -- record and journal: each call gets them as the one before left them, and nothing else writes them meanwhile
-pub record Kept : Type 0 where
+pub record RecordAndJournal : Type 0 where
   pub service : Service
   pub journal : List ℕ
 
 -- what is seen of a call
-abbrev pub look : Kept → Call → Seen
-look kept call = callOn (kept .service) (kept .journal) call .seen
+abbrev pub look : RecordAndJournal → Call → Seen
+look both call = callOn (both .service) (both .journal) call .seen
 
 -- record and journal after it
-abbrev pub next : Kept → Call → Kept
-next kept call =
-    let left = callOn (kept .service) (kept .journal) call in
+abbrev pub next : RecordAndJournal → Call → RecordAndJournal
+next both call =
+    let left = callOn (both .service) (both .journal) call in
     record { service = left .service; journal = left .journal }
 
 -- what is seen of the calls of a list, from a fresh service and a journal of any length and content
@@ -57,10 +47,10 @@ pub record Gives (result : Allocation) (seen : Seen) : Type 0 where
   pub rounds : seen .number ≡ result .rounds
 
 -- what is right of an accepted call, by the book as the earlier calls made it
-abbrev pub Right : Book → Call → Seen → Type 0
-Right book (Submission clock code day quarter value) seen = seen .number ≡ bookStamp book clock code day quarter value
-Right book (Clear day stamp) seen = Unit {0}
-Right book (Evaluation day quarter T lent) seen = Gives (bookResult book day quarter T) seen
+abbrev pub RightByBook : Book → Call → Seen → Type 0
+RightByBook book (Submission clock m) seen = seen .number ≡ bookStamp book clock m
+RightByBook book (Clear day stamp) seen = Unit {0}
+RightByBook book (Evaluation day quarter T lent) seen = Gives (bookResult book day quarter T) seen
 
 -- two evaluations are equal in pair shares, remaining withdrawals, remaining supplies and round count
 pub record SameResult (r : Registration) (a b : Seen) : Type 0 where
@@ -72,7 +62,7 @@ pub record SameResult (r : Registration) (a b : Seen) : Type 0 where
 -- every accepted submission returns the book's stamp, every accepted evaluation gives the book's result; any two accepted evaluations of one day and
 -- quarter as of one T, anywhere in the list, are equal; no call is refused by 15
 pub record Demand3 (r : Registration) (journal : List ℕ) (calls : List Call) : Type 0 where
-  pub each : AllRight refused bookAfter Right (newBook r) calls (seenOf r journal calls)
+  pub each : AllRight refused bookAfter RightByBook (newBook r) calls (seenOf r journal calls)
   pub pairs : (i k day quarter T : ℕ) (lent lent′ : List ℕ) (a b : Seen)
       → Made calls (seenOf r journal calls) i (Evaluation day quarter T lent) a → refused a ≡ false
       → Made calls (seenOf r journal calls) k (Evaluation day quarter T lent′) b → refused b ≡ false

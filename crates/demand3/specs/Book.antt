@@ -4,16 +4,16 @@ use Prim.Native.Nat.{ℕ}
 use mathlib.Core.Bool.{Bool, true, false, cond, _&&_}
 use mathlib.Core.List.{List, [], _∷_, _++_, map}
 use mathlib.Core.Option.{Option}
-use lib.IntN.{ℤ}
 use lib.Dec.{eqb}
 use Rattle.registration.specs.declared.Registration.{Registration}
 use Rattle.allocation.specs.Result.{Allocation}
+use Rattle.values.specs.declared.Measurement.{Measurement}
 use Rattle.journal.specs.Value.{valueOf}
 use Rattle.journal.specs.Order.{Reading}
 use Rattle.journal.specs.Readings.{those, strongest, sameAs, stampOf}
 use Rattle.evaluation.specs.Evaluation.{evaluationOf}
 use Rattle.service.specs.Group.{Call, Submission, Clear, Evaluation}
 use Rattle.service.specs.Calls.{nextStamp}
 
 -- what is noted of an accepted submission: code, day, quarter, and the reading with its magnitude and stamp
 pub record Note : Type 0 where
@@ -44,33 +44,36 @@ isFor code day quarter note = eqb (note .code) code && eqb (note .day) day && eq
 abbrev pub noted : Page → (code day quarter : ℕ) → List Reading
 noted page code day quarter = map (λ note. note .reading) (those (isFor code day quarter) (page .notes))
 
--- the newest reading, the one with the greatest stamp, that the book has for a code, day and quarter
-abbrev pub newestNoted : Page → (code day quarter : ℕ) → Option Reading
-newestNoted page code day quarter = strongest (noted page code day quarter)
+-- the newest reading, the one with the greatest stamp, that the book has for a measurement's code, day and quarter
+abbrev pub newestNoted : Page → Measurement → Option Reading
+newestNoted page m = strongest (noted page (m .code) (m .day) (m .quarter))
+
+-- what is noted of a measurement under a stamp
+abbrev pub noteOf : (stamp : ℕ) → Measurement → Note
+noteOf stamp m = record { code = m .code; day = m .day; quarter = m .quarter; reading = record { stamp = stamp; value = valueOf m } }
 
 -- a page with one note more
 abbrev pub withNote : Page → Note → Page
 withNote page note = record { registration = page .registration; notes = page .notes ++ (note ∷ []) }
 
 -- the stamp of an accepted submission: that of the newest reading if it has the same magnitude, otherwise a new one
-unfoldable pub bookStamp : Book → (clock code day quarter : ℕ) → ℤ → ℕ
-bookStamp b clock code day quarter value =
-    let newest = newestNoted (b .page) code day quarter in
-    cond (sameAs newest (valueOf value)) (stampOf newest) (nextStamp clock (b .last))
+unfoldable pub bookStamp : Book → (clock : ℕ) → Measurement → ℕ
+bookStamp b clock m =
+    let newest = newestNoted (b .page) m in
+    cond (sameAs newest (valueOf m)) (stampOf newest) (nextStamp clock (b .last))
 
 -- the book after an accepted submission: nothing is noted of the same magnitude; otherwise the reading is, and its stamp becomes the last stamp
-unfoldable pub bookSubmitted : Book → (clock code day quarter : ℕ) → ℤ → Book
-bookSubmitted b clock code day quarter value =
+unfoldable pub bookSubmitted : Book → (clock : ℕ) → Measurement → Book
+bookSubmitted b clock m =
     let new = nextStamp clock (b .last) in
-    let reading : Reading = record { stamp = new; value = valueOf value } in
-    cond (sameAs (newestNoted (b .page) code day quarter) (valueOf value))
+    cond (sameAs (newestNoted (b .page) m) (valueOf m))
     b
-    (record { last = new; page = withNote (b .page) (record { code = code; day = day; quarter = quarter; reading = reading }) })
+    (record { last = new; page = withNote (b .page) (noteOf new m) })
 
 -- the book after a call, of which it is told the arguments and whether it was refused
 unfoldable pub bookAfter : Book → Call → (refused : Bool) → Book
 bookAfter b call true = b
-bookAfter b (Submission clock code day quarter value) false = bookSubmitted b clock code day quarter value
+bookAfter b (Submission clock m) false = bookSubmitted b clock m
 bookAfter b (Clear day stamp) false = b
 bookAfter b (Evaluation day quarter T lent) false = b
 

@@ -1,14 +1,14 @@
--- `service::Service::clear_value` meets its contract. Assumes nothing.
+-- `service::clear` meets its contract. Assumes nothing.
 use native.Mathlib.Omega.{arith}
 use mathlib.Core.Path.{refl, sym, _∙_}
 use Rattle.journal.proofs.Stored.{length-entries}
-use Rattle.service.specs.Record.{groupIn}
+use Rattle.journal.specs.Stored.{entries}
 use Rattle.service.proofs.Undamaged.{few-points, right-for, fits-of}
-use Rattle.service.proofs.Clearings.{length-keep}
+use Rattle.journal.proofs.Kept.{length-keep}
 use Rattle.service.proofs.Cores.{clear-sound, clears-refused, clears-accepted}
 use borrow.Author.Needs.{needs}
-use Rattle.service.proofs.Service.clear_value.Statement.{statement}
-use Rattle.service.proofs.Service.clear_value.Tie as tie
+use Rattle.service.proofs.clear.Statement.{statement}
+use Rattle.service.proofs.clear.Tie as tie
 
 clear-verdict-requires : tie.Need-clear-verdict-requires
 clear-verdict-requires c κs = search needs
@@ -27,27 +27,27 @@ enum-told c = search needs
 
 add-points : tie.Need-add-points
 add-points c =
-    let s = clear-sound _ _ _ _ (sym (c .before .before .before .before .clear-verdict .ensures) ∙ search) in
+    let s = clear-sound _ _ _ _ (sym (c .before .before .before .clear-verdict .ensures) ∙ search) in
     omega (arith, few-points _ _ s)
 
 keep-requires : tie.Need-keep-requires
 keep-requires c κs =
-    let s = clear-sound _ _ _ _ (sym (c .before .before .before .before .before .clear-verdict .ensures) ∙ search) in
-    (fits-of _ _ s, right-for _ _ (few-points _ _ s) s)
+    let s = clear-sound _ _ _ _ (sym (c .before .before .before .before .clear-verdict .ensures) ∙ search) in
+    (fits-of _ _ _ s, right-for _ _ (few-points _ _ s) s)
 
 sub-dropped : tie.Need-sub-dropped
 sub-dropped c =
-    let a = c .before .before .before .before .before .before .before .before .before .before .before .before .args in
-    omega (arith, c .before .before .keep .ensures .number, length-keep (groupIn (a .self) (a .journal .now)) (a .day) (a .stamp), length-entries (a .self .state .entries) (a .journal .now))
+    let a = c .before .before .before .before .before .before .before .before .before .before .args in
+    omega (arith, c .before .before .keep .ensures .number, length-keep (a .day) (a .stamp) (entries (a .numbers .entries) (a .journal .now)), length-entries (a .numbers .entries) (a .journal .now))
 
 same-length-2 : tie.Need-same-length-2
 same-length-2 c = search needs
 
 returns-2 : tie.Need-returns-2
-returns-2 c = clears-accepted _ _ _ _ _ _ _ _ (c .before .before .before .before .before .before .before .before .clear-verdict .ensures) (search) (c .before .before .keep .ensures) refl
+returns-2 c = clears-accepted _ _ _ _ _ _ _ _ (c .before .before .before .before .before .before .before .clear-verdict .ensures) (search) (c .before .before .keep .ensures) refl
 
-pub clear-value-spec : {M : Type 1} → statement M
-clear-value-spec =
+pub clear-spec : {M : Type 1} → statement M
+clear-spec =
     tie.close
     (tie.spec
     clear-verdict-requires

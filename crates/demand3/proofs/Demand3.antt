@@ -11,16 +11,16 @@ use Rattle.calendar.specs.Quarters.{quarterExists}
 use Rattle.registration.specs.declared.Registration.{Registration}
 use Rattle.registration.specs.Damage.{isDamaged}
 use Rattle.allocation.specs.Result.{Allocation}
-use Rattle.service.specs.Group.{Call, Evaluation, Seen}
+use Rattle.service.specs.Group.{Call, Evaluation, Seen, refused}
 use Rattle.service.specs.Record.{freshService}
-use Rattle.service.specs.Book.{Book, newBook, bookAfter, bookResult}
-use Rattle.service.specs.Lists.{Made}
-use Rattle.service.specs.Demand3.{refused, Kept, look, next, seenOf, Gives, Right, SameResult, Demand3Holds}
-use Rattle.service.proofs.Results.{Lengths, book-lengths, same-of}
-use Rattle.service.proofs.Later.{later-after, later-result}
-use Rattle.service.proofs.OneCall.{reached}
-use Rattle.service.proofs.Joint.{groupOf, afterOf, Joint, joint-fresh, seen-at, right-at, joint-at, undamaged-at}
-use Rattle.service.proofs.Lists
+use Rattle.demand3.specs.Book.{Book, newBook, bookAfter, bookResult}
+use Rattle.demand3.specs.Lists.{Made}
+use Rattle.demand3.specs.Demand3.{RecordAndJournal, look, next, seenOf, Gives, RightByBook, SameResult, Demand3Holds}
+use Rattle.demand3.proofs.Results.{Lengths, book-lengths, same-of}
+use Rattle.demand3.proofs.Later.{later-after, later-result}
+use Rattle.demand3.proofs.OneCall.{reached}
+use Rattle.demand3.proofs.Joint.{groupAt, afterOf, Joint, joint-fresh, seen-at, right-at, joint-at, undamaged-at}
+use Rattle.demand3.proofs.Lists
 
 -- an evaluation gives a result with one number for each pair, each consumer and each producer of the registration
 record GivesWhole (r : Registration) (result : Allocation) (seen : Seen) : Type 0 where
@@ -41,29 +41,29 @@ module _ (r : Registration) (day quarter T : ℕ) where
     registration : book .page .registration ≡ r
 
   -- what is right of one of them is that it gives the book's result
-  gives-right : (book : Book) → Reached book → (call : Call) (a : Seen) → Asks call → Right book call a → GivesWhole r (bookResult book day quarter T) a
+  gives-right : (book : Book) → Reached book → (call : Call) (a : Seen) → Asks call → RightByBook book call a → GivesWhole r (bookResult book day quarter T) a
   gives-right book l call a k right =
-      let g : Right book (Evaluation day quarter T (k .lent)) a = rw (k .is) at right in
+      let g : RightByBook book (Evaluation day quarter T (k .lent)) a = rw (k .is) at right in
       record { lengths = subst (λ (x : Registration). Lengths x (bookResult book day quarter T)) (l .registration) (book-lengths book day quarter T); gives = g }
 
   -- where one of them is accepted, the book has reached T
-  asked : (kept : Kept) (book : Book) → Joint r kept book → (call : Call) → Asks call → refused (look kept call) ≡ false → Reached book
-  asked kept book joint call k e =
-      let e′ : refused (afterOf kept call .seen) ≡ false = ap refused (sym (seen-at kept call)) ∙ e in
-      let m = reached (kept .service .state .last) (groupOf kept) day quarter T (k .lent) (rw (k .is) at e′) in
+  asked : (both : RecordAndJournal) (book : Book) → Joint r both book → (call : Call) → Asks call → refused (look both call) ≡ false → Reached book
+  asked both book joint call k e =
+      let e′ : refused (afterOf both call .seen) ≡ false = ap refused (sym (seen-at both call)) ∙ e in
+      let m = reached (both .service .state .last) (groupAt both) day quarter T (k .lent) (rw (k .is) at e′) in
       record { exists = m .0; stamp = omega (arith, m .1, joint .last-same); registration = joint .registration }
 
   -- later calls do not alter that
-  stays : (kept : Kept) (book : Book) → Joint r kept book → (call : Call) → Reached book → Reached (bookAfter book call (refused (look kept call)))
-  stays kept book joint call l =
-      let m = later-after book call (refused (look kept call)) in
+  stays : (both : RecordAndJournal) (book : Book) → Joint r both book → (call : Call) → Reached book → Reached (bookAfter book call (refused (look both call)))
+  stays both book joint call l =
+      let m = later-after book call (refused (look both call)) in
       record { exists = l .exists; stamp = omega (arith, l .stamp, m .rises); registration = m .registration ∙ l .registration }
 
   -- nor the book's result
-  same : (kept : Kept) (book : Book) → Joint r kept book → (call : Call) → Reached book
-      → bookResult (bookAfter book call (refused (look kept call))) day quarter T ≡ bookResult book day quarter T
-  same kept book joint call l =
-      later-result book _ (later-after book call (refused (look kept call))) day quarter T (l .exists) (l .stamp)
+  same : (both : RecordAndJournal) (book : Book) → Joint r both book → (call : Call) → Reached book
+      → bookResult (bookAfter book call (refused (look both call))) day quarter T ≡ bookResult book day quarter T
+  same both book joint call l =
+      later-result book _ (later-after book call (refused (look both call))) day quarter T (l .exists) (l .stamp)
 
 -- any two accepted evaluations of one day, quarter and T give one and the same result, of the registration's size
 module _ (r : Registration) (h : isDamaged r ≡ false) (journal : List ℕ) (calls : List Call) (i k day quarter T : ℕ) (lent lent′ : List ℕ) (a a′ : Seen)
@@ -71,7 +71,7 @@ module _ (r : Registration) (h : isDamaged r ≡ false) (journal : List ℕ) (ca
     (m′ : Made calls (seenOf r journal calls) k (Evaluation day quarter T lent′) a′) (e′ : refused a′ ≡ false) where
   one-result : (result : Allocation) × GivesWhole r result a × GivesWhole r result a′
   one-result =
-      Lists.pairs look next refused bookAfter Right (Joint r) (right-at r) (joint-at r)
+      Lists.pairs look next refused bookAfter RightByBook (Joint r) (right-at r) (joint-at r)
       (Asks r day quarter T) (λ b. bookResult b day quarter T) (GivesWhole r) (Reached r day quarter T)
       (gives-right r day quarter T) (asked r day quarter T) (stays r day quarter T) (same r day quarter T)
       calls (record { service = freshService r; journal = journal }) (newBook r) (joint-fresh r journal h)
@@ -87,11 +87,11 @@ module _ (r : Registration) (h : isDamaged r ≡ false) (journal : List ℕ) (ca
 -- the claim, from a fresh service and a new book on
 pub demand3 : Demand3Holds
 demand3 r h journal calls =
-    let kept : Kept = record { service = freshService r; journal = journal } in
-    let joint : Joint r kept (newBook r) = joint-fresh r journal h in
+    let both : RecordAndJournal = record { service = freshService r; journal = journal } in
+    let joint : Joint r both (newBook r) = joint-fresh r journal h in
     record {
-      each = Lists.all-right look next refused bookAfter Right (Joint r) (right-at r) (joint-at r) calls kept (newBook r) joint;
+      each = Lists.all-right look next refused bookAfter RightByBook (Joint r) (right-at r) (joint-at r) calls both (newBook r) joint;
       pairs = same-result r h journal calls;
-      undamaged = Lists.each-call look next refused bookAfter Right (Joint r) (right-at r) (joint-at r)
-          (λ call a. a .verdict ≢ Refused Damaged) (undamaged-at r) calls kept (newBook r) joint;
+      undamaged = Lists.each-call look next refused bookAfter RightByBook (Joint r) (right-at r) (joint-at r)
+          (λ call a. a .verdict ≢ Refused Damaged) (undamaged-at r) calls both (newBook r) joint;
     }

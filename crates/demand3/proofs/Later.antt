@@ -10,10 +10,10 @@ use Rattle.journal.specs.Value.{valueOf}
 use Rattle.journal.specs.Readings.{shown, sameAs}
 use Rattle.journal.proofs.ShownLaws.{shown-late}
 use Rattle.evaluation.proofs.Alike.{evaluation-alike}
 use Rattle.service.specs.Group.{Call, Submission, Clear, Evaluation}
 use Rattle.service.specs.Calls.{nextStamp}
-use Rattle.service.specs.Book.{Book, Note, isFor, noted, newestNoted, withNote, bookSubmitted, bookAfter, bookResult}
-use Rattle.service.proofs.Noted.{noted-more}
+use Rattle.demand3.specs.Book.{Book, Note, isFor, noted, newestNoted, withNote, bookSubmitted, bookAfter, bookResult}
+use Rattle.demand3.proofs.Noted.{noted-more}
 
 -- a book as later calls made it
 pub record Later (b later : Book) : Type 0 where
@@ -43,8 +43,8 @@ later-note b note new h l =
 pub later-after : (b : Book) (call : Call) (refused : Bool) → Later b (bookAfter b call refused)
 unfolding bookAfter bookSubmitted
 later-after b call true = later-same b
-later-after b (Submission clock code day quarter value) false =
-    by-test (sameAs (newestNoted (b .page) code day quarter) (valueOf value))
+later-after b (Submission clock m) false =
+    by-test (sameAs (newestNoted (b .page) m) (valueOf m))
     (λ t. rw t (later-same b))
     (λ t. rw t (later-note b _ (nextStamp clock (b .last)) (omega arith) (omega arith)))
 later-after b (Clear day stamp) false = later-same b

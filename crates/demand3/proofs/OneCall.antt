@@ -5,36 +5,37 @@ use mathlib.Core.Path.{_≡_, refl}
 use mathlib.Core.Bool.{true, false, true≢false}
 use mathlib.Core.Logic.{_≢_}
 use mathlib.Core.List.{List, []}
-use lib.IntN.{ℤ}
+use Rattle.values.specs.declared.Measurement.{Measurement}
 use Rattle.answers.specs.declared.Verdict.{Verdict}
 use Rattle.answers.specs.declared.Verdict.the-variants.{Accepted, Refused}
 use Rattle.answers.specs.declared.Refusal.the-variants.{Damaged}
 use Rattle.calendar.specs.Quarters.{quarterExists}
-use Rattle.service.specs.Group.{Group, Call, Submission, Clear, Evaluation, After}
+use Rattle.service.specs.Group.{Group, Call, Submission, Clear, Evaluation, After, refused}
 use Rattle.service.specs.Refusals.{damaged, submissionVerdict, clearVerdict, evaluationVerdict}
-use Rattle.service.specs.Calls.{submitted, cleared, evaluated, unless, step}
-use Rattle.service.specs.Book.{Book, bookAfter}
-use Rattle.service.specs.Demand3.{refused, Right}
+use Rattle.service.specs.Calls.{submitted, cleared, evaluated, whenAccepted, step}
+use Rattle.demand3.specs.Book.{Book, bookAfter}
+use Rattle.demand3.specs.Demand3.{RightByBook}
 use Rattle.service.proofs.Sound.{undamaged}
-use Rattle.service.proofs.Related.{Related}
-use Rattle.service.proofs.NeverDamaged.{submission-not-15, clear-not-15, evaluation-not-15}
-use Rattle.service.proofs.Submissions.{admitted, submitted-accepted, submission-right}
-use Rattle.service.proofs.Clearings.{clearing, clear-right}
-use Rattle.service.proofs.Evaluations.{evaluating, evaluation-right}
+use Rattle.demand3.proofs.Related.{Related}
+use Rattle.service.proofs.Admitted.{admitted, submitted-accepted, clearing, evaluating}
+use Rattle.demand3.proofs.NeverDamaged.{submission-not-15, clear-not-15, evaluation-not-15}
+use Rattle.demand3.proofs.Submissions.{submission-right}
+use Rattle.demand3.proofs.Clearings.{clear-right}
+use Rattle.demand3.proofs.Evaluations.{evaluation-right}
 
 -- what is to be shown of a call: right if accepted; the book's last stamp; related to the book after it; not refused by 15
 pub record Fine (book : Book) (call : Call) (after : After) : Type 0 where
-  pub right : refused (after .seen) ≡ false → Right book call (after .seen)
+  pub right : refused (after .seen) ≡ false → RightByBook book call (after .seen)
   pub last-same : after .last ≡ bookAfter book call (refused (after .seen)) .last
   pub related : Related (after .last) (after .group) (bookAfter book call (refused (after .seen)) .page)
   pub undamaged : after .seen .verdict ≢ Refused Damaged
 
 -- a refused call leaves group and book as they were
-fine-unless : (book : Book) (G : Group) (call : Call) (lent : List ℕ) (verdict : Verdict) (after : After) → Related (book .last) G (book .page)
-    → verdict ≢ Refused Damaged → (verdict ≡ Accepted → Fine book call after) → Fine book call (unless verdict (book .last) G lent after)
+fine-when-accepted : (book : Book) (G : Group) (call : Call) (lent : List ℕ) (verdict : Verdict) (after : After) → Related (book .last) G (book .page)
+    → verdict ≢ Refused Damaged → (verdict ≡ Accepted → Fine book call after) → Fine book call (whenAccepted verdict (book .last) G lent after)
 unfolding bookAfter
-fine-unless book G call lent Accepted after rel h f = f refl
-fine-unless book G call lent (Refused refusal) after rel h f =
+fine-when-accepted book G call lent Accepted after rel h f = f refl
+fine-when-accepted book G call lent (Refused refusal) after rel h f =
     record { right = λ e. absurd (true≢false e); last-same = refl; related = rel; undamaged = h }
 
 module _ (book : Book) (G : Group) (rel : Related (book .last) G (book .page)) where
@@ -47,12 +48,12 @@ module _ (book : Book) (G : Group) (rel : Related (book .last) G (book .page)) w
   none = undamaged last G (rel .sound)
 
   -- an accepted submission, clear and evaluation
-  fine-submission : (clock code day quarter : ℕ) (value : ℤ) → submissionVerdict last G clock code day quarter value ≡ Accepted
-      → Fine book (Submission clock code day quarter value) (submitted last G clock code day quarter value)
+  fine-submission : (clock : ℕ) (m : Measurement) → submissionVerdict last G clock m ≡ Accepted
+      → Fine book (Submission clock m) (submitted last G clock m)
   unfolding bookAfter
-  fine-submission clock code day quarter value e =
-      let k = submission-right last G clock code day quarter value (book .page) rel (admitted last G clock code day quarter value e) in
-      let v = submitted-accepted last G clock code day quarter value in
+  fine-submission clock m e =
+      let k = submission-right last G clock m (book .page) rel (admitted last G clock m e) in
+      let v = submitted-accepted last G clock m in
       record {
         right = λ a. k .0;
         last-same = rw v (k .1);
@@ -84,15 +85,15 @@ module _ (book : Book) (G : Group) (rel : Related (book .last) G (book .page)) w
   -- every call
   pub fine : (call : Call) → Fine book call (step last G call)
   unfolding step
-  fine (Submission clock code day quarter value) =
-      fine-unless book G _ [] _ _ rel (submission-not-15 last G none clock code day quarter value) (fine-submission clock code day quarter value)
-  fine (Clear day stamp) = fine-unless book G _ [] _ _ rel (clear-not-15 last G none day stamp) (fine-clear day stamp)
+  fine (Submission clock m) =
+      fine-when-accepted book G _ [] _ _ rel (submission-not-15 last G none clock m) (fine-submission clock m)
+  fine (Clear day stamp) = fine-when-accepted book G _ [] _ _ rel (clear-not-15 last G none day stamp) (fine-clear day stamp)
   fine (Evaluation day quarter T lent) =
-      fine-unless book G _ lent _ _ rel (evaluation-not-15 last G none day quarter T lent) (fine-evaluation day quarter T lent)
+      fine-when-accepted book G _ lent _ _ rel (evaluation-not-15 last G none day quarter T lent) (fine-evaluation day quarter T lent)
 
 -- a call that is not refused has the verdict Accepted
 accepted-verdict : (verdict : Verdict) (last : ℕ) (G : Group) (lent : List ℕ) (after : After)
-    → refused (unless verdict last G lent after .seen) ≡ false → verdict ≡ Accepted
+    → refused (whenAccepted verdict last G lent after .seen) ≡ false → verdict ≡ Accepted
 accepted-verdict Accepted last G lent after e = refl
 accepted-verdict (Refused refusal) last G lent after e = absurd (true≢false e)
 

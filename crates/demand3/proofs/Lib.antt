@@ -1,0 +1,13 @@
+pub mod Lists
+pub mod SamePlace
+pub mod Related
+pub mod Noted
+pub mod Submissions
+pub mod Clearings
+pub mod Results
+pub mod Evaluations
+pub mod NeverDamaged
+pub mod OneCall
+pub mod Later
+pub mod Joint
+pub mod Demand3
