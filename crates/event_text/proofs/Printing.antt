@@ -7,7 +7,7 @@ use Rattle.registration.specs.declared.Registration.{Registration}
 use Rattle.service.specs.declared.Service.{Service}
 use Rattle.service.specs.Group.{Call, Seen}
 use Rattle.service.specs.Record.{callOn}
-use Rattle.service.specs.Lists.{run}
+use Rattle.demand3.specs.Lists.{run}
 use Rattle.demand3.specs.Demand3.{look, next}
 use Rattle.service.proofs.Laws.{length-stays}
 use Rattle.event_reader.specs.declared.Event.{Event}

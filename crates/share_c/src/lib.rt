@@ -3,12 +3,13 @@ ghost use mathlib.Core.Path.{_≡_};
 ghost use Rattle.calendar.specs.Dates.{dayOf, dateOf};
 ghost use Rattle.calendar.specs.Quarters.{quartersOf};
 ghost use Rattle.service.specs.Record.{withState};
-ghost use Rattle.share_c.specs.Contracts.{readOf, Wrote, freshOf, Submits, Clears, Evaluates, datedOf};
+ghost use Rattle.share_c.specs.Contracts.{readAnswer, WriteLeaves, freshAnswer, SubmitLeaves, ClearLeaves, EvaluateLeaves, dayAnswer};
 use answers::Refusal;
 use calendar::Day;
 use registration::Registration;
 use service::Service;
 use service::State;
+use values::Measurement;
 
 // The answer of `share_read`: the registration, zeros where it is refused.
 #[repr(C)]
@@ -74,7 +75,7 @@ pub struct ClearStep {
 // Reads a registration from its text.
 #[no_mangle]
 pub extern "C" fn share_read(text: &[u8]) -> Read
-    ensures { λ r. ⌜ r ≡ readOf (now (text .entry)) ⌝ }
+    ensures { λ r. ⌜ r ≡ readAnswer (now (text .entry)) ⌝ }
 {
     let read = registration_reader::read(text);
     let verdict = read.verdict;
@@ -89,7 +90,7 @@ pub extern "C" fn share_read(text: &[u8]) -> Read
 // Writes a registration's text to the front of a buffer.
 #[no_mangle]
 pub extern "C" fn share_write(registration: Registration, out: &mut [u8]) -> Written
-    ensures { λ r. ⌜ Wrote registration (now (out .entry)) (now (out .exit)) r ⌝ }
+    ensures { λ r. ⌜ WriteLeaves registration (now (out .entry)) (now (out .exit)) r ⌝ }
 {
     let written = registration_writer::write(registration, out);
     let verdict = written.verdict;
@@ -101,7 +102,7 @@ pub extern "C" fn share_write(registration: Registration, out: &mut [u8]) -> Wri
 // A service made from a registration alone.
 #[no_mangle]
 pub extern "C" fn share_fresh(registration: Registration) -> Fresh
-    ensures { λ r. ⌜ r ≡ freshOf registration ⌝ }
+    ensures { λ r. ⌜ r ≡ freshAnswer registration ⌝ }
 {
     let fresh = Service::fresh(registration);
     let verdict = fresh.verdict;
@@ -115,14 +116,11 @@ fn submit_value(
     service: Service,
     journal: &mut [u64],
     clock: u64,
-    code: u64,
-    day: u64,
-    quarter: u64,
-    value: i64,
+    measurement: Measurement,
 ) -> SubmitStep
-    ensures { λ r. ⌜ Submits service (now (journal .entry)) clock code day quarter value (withState service (r .state)) (r .submitted) (now (journal .exit)) ⌝ }
+    ensures { λ r. ⌜ SubmitLeaves service (now (journal .entry)) clock measurement (withState service (r .state)) (r .submitted) (now (journal .exit)) ⌝ }
 {
-    let done = service.submit_value(journal, clock, code, day, quarter, value);
+    let done = service.submit_value(journal, clock, measurement);
     let state = done.state;
     let given = done.submitted;
     let verdict = given.verdict;
@@ -140,21 +138,18 @@ pub extern "C" fn share_submit(
     service: &mut Service,
     journal: &mut [u64],
     clock: u64,
-    code: u64,
-    day: u64,
-    quarter: u64,
-    value: i64,
+    measurement: Measurement,
 ) -> Submitted
-    ensures { λ r. ⌜ Submits (now (service .entry)) (now (journal .entry)) clock code day quarter value (now (service .exit)) r (now (journal .exit)) ⌝ }
+    ensures { λ r. ⌜ SubmitLeaves (now (service .entry)) (now (journal .entry)) clock measurement (now (service .exit)) r (now (journal .exit)) ⌝ }
 {
-    let done = submit_value(*service, journal, clock, code, day, quarter, value);
+    let done = submit_value(*service, journal, clock, measurement);
     service.state = done.state;
     done.submitted
 }
 
 // A clear on a record by value, with its answer as numbers.
 fn clear_value(service: Service, journal: &mut [u64], day: u64, stamp: u64) -> ClearStep
-    ensures { λ r. ⌜ Clears service (now (journal .entry)) day stamp (withState service (r .state)) (r .cleared) (now (journal .exit)) ⌝ }
+    ensures { λ r. ⌜ ClearLeaves service (now (journal .entry)) day stamp (withState service (r .state)) (r .cleared) (now (journal .exit)) ⌝ }
 {
     let done = service.clear_value(journal, day, stamp);
     let state = done.state;
@@ -176,7 +171,7 @@ pub extern "C" fn share_clear(
     day: u64,
     stamp: u64,
 ) -> Cleared
-    ensures { λ r. ⌜ Clears (now (service .entry)) (now (journal .entry)) day stamp (now (service .exit)) r (now (journal .exit)) ⌝ }
+    ensures { λ r. ⌜ ClearLeaves (now (service .entry)) (now (journal .entry)) day stamp (now (service .exit)) r (now (journal .exit)) ⌝ }
 {
     let done = clear_value(*service, journal, day, stamp);
     service.state = done.state;
@@ -193,7 +188,7 @@ pub extern "C" fn share_evaluate(
     until: u64,
     result: &mut [u64],
 ) -> Evaluated
-    ensures { λ r. ⌜ Evaluates service (now (journal .entry)) day quarter until (now (result .entry)) r (now (result .exit)) ⌝ }
+    ensures { λ r. ⌜ EvaluateLeaves service (now (journal .entry)) day quarter until (now (result .entry)) r (now (result .exit)) ⌝ }
 {
     let evaluated = service.evaluate(journal, day, quarter, until, result);
     let verdict = evaluated.verdict;
@@ -205,7 +200,7 @@ pub extern "C" fn share_evaluate(
 // The day of a date YYYYMMDD.
 #[no_mangle]
 pub extern "C" fn share_day(date: u64) -> Dated
-    ensures { λ r. ⌜ r ≡ datedOf (dayOf date) ⌝ }
+    ensures { λ r. ⌜ r ≡ dayAnswer (dayOf date) ⌝ }
 {
     let found = calendar::day_of(date);
     match found {

@@ -45,7 +45,7 @@ use denote.Triple.Table.{entered, cited}
 use denote.Triple.Walked.{says, needs, Stays, stay-ref, gave-slice, stay-dropped, walkOf, goes-ref, goes-gave-slice, goes-dropped, Walks, ends-at, walked, walk-meets}
 use denote.Exit.{yes}
 use denote.Signature.{plain, mutSliceOf, shrSliceOf}
-use Rattle.share_c.specs.Contracts.{Clears}
+use Rattle.share_c.specs.Contracts.{ClearLeaves}
 use Rattle.service.specs.declared.Service.{Service}
 use Rattle.share_c.specs.declared.ClearStep.{ClearStep}
 use Rattle.share_c.specs.declared.Cleared.{Cleared}
@@ -68,7 +68,7 @@ use Rattle.share_c.proofs.share_clear.Code as code
 
 -- what both functions ask, and what both say of the record, the answer and the last lists
 abbrev Said : Service → List ℕ → ℕ → ℕ → Service → Cleared → List ℕ → Type 0
-Said h x1 x2 x3 h′ r z1 = Clears h x1 x2 x3 h′ r z1
+Said h x1 x2 x3 h′ r z1 = ClearLeaves h x1 x2 x3 h′ r z1
 
 abbrev stayed : Stays (own′.ended .signature .params) (own′.ended .kept)
 stayed = (stay-ref (0 ∷ []) tt (plain (λ _. T.the-row)), (gave-slice (1 ∷ []) tt (plain (λ _. u64)), (stay-dropped (plain (λ _. u64)) yes, (stay-dropped (plain (λ _. u64)) yes, tt))))

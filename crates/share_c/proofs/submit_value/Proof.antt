@@ -14,7 +14,7 @@ same-length : tie.Need-same-length
 same-length c = search needs
 
 returns : tie.Need-returns
-returns c = submit-numbers _ _ _ _ _ _ (c .before .before .before .before .before .before .before .before .args .value) _ _ _ _ (c .before .before .before .before .before .before .before .before .fits .value) (c .before .before .before .before .before .submit-value .ensures) (c .answer .ensures)
+returns c = submit-numbers _ _ _ _ _ _ _ _ (c .before .before .before .before .before .submit-value .ensures) (c .answer .ensures)
 
 pub submit-value-spec : {M : Type 1} → statement M
 submit-value-spec = tie.close (tie.spec submit-value-requires answer-requires same-length returns)
