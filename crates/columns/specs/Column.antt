@@ -3,9 +3,10 @@
 use Prim.Native.Nat.{ℕ, zero, suc, _+_, _-_, _*_, _/_, _%_}
 use mathlib.Core.Bool.{Bool, true, false, cond, not, _&&_, _||_}
 use mathlib.Core.List.{List, [], _∷_, _++_}
-use lib.IntN.{ℤ, pos, negsuc, negℤ, natAbs}
+use lib.IntN.{ℤ, pos, negℤ, natAbs}
 use lib.ListN.{length, getD}
 use lib.Dec.{leb, ltb, eqb}
+use Rattle.values.specs.Values.{isNegative}
 use Rattle.columns.specs.declared.Number.{Number}
 use Rattle.columns.specs.declared.Number.the-variants.{Is, Bad}
 use Rattle.columns.specs.declared.Signed.{Signed}
@@ -26,11 +27,6 @@ leadOf minus (suc w) n = leadOf (minus && not (eqb n 0)) w (n / 10) ++ (byteBefo
 unfoldable pub columnOf : Bool → ℕ → ℕ → List ℕ
 columnOf minus zero n = []
 columnOf minus (suc w) n = leadOf minus w (n / 10) ++ ((48 + n % 10) ∷ [])
-
--- whether a value is below 0
-abbrev pub isNegative : ℤ → Bool
-isNegative (pos n) = false
-isNegative (negsuc n) = true
 
 -- the column of a signed value
 abbrev pub signedColumnOf : ℕ → ℤ → List ℕ

@@ -6,9 +6,10 @@ use mathlib.Core.List.{List, _++_}
 use mathlib.Core.Option.{some}
 use lib.IntN.{ℤ, natAbs}
 use lib.ListN.{length, take}
+use Rattle.values.specs.Values.{isNegative}
 use Rattle.columns.specs.declared.Number.the-variants.{Is}
 use Rattle.columns.specs.declared.Signed.the-variants.{Is as IsSigned}
-use Rattle.columns.specs.Column.{columnOf, signedColumnOf, isNegative, numberOf, signedOf}
+use Rattle.columns.specs.Column.{columnOf, signedColumnOf, numberOf, signedOf}
 use Rattle.columns.specs.Fields.{total, columnsOf, numbersIn, fitting}
 use Rattle.columns.specs.Line.{firstLine, afterLine}
 

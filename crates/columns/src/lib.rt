@@ -4,7 +4,6 @@ ghost use mathlib.Core.Bool.{true, false, not, _&&_};
 ghost use mathlib.Core.List.{[], _∷_};
 ghost use Prim.Native.Nat.{_+_, _≤_, _<_};
 ghost use lib.Dec.{leb, eqb};
-ghost use lib.IntN.{natAbs};
 ghost use lib.ListN.{length, getD, drop};
 ghost use Rattle.columns.specs.Column.{byteBefore, columnOf, signedColumnOf, digitOf, valueFrom, sameBytes, hasMinus, numberOf, signedOf};
 ghost use Rattle.columns.specs.Line.{firstLine};
@@ -83,22 +82,11 @@ pub fn write_number(out: &mut [u8], value: u64)
     write_column(out, false, value)
 }
 
-// How far a value is from 0, at the least value too.
-fn magnitude(value: i64) -> u64
-    ensures { λ r. ⌜ r ≡ natAbs value ⌝ }
-{
-    if value < 0 {
-        (-(value + 1)) as u64 + 1
-    } else {
-        value as u64
-    }
-}
-
 // Fills a column with a signed value.
 pub fn write_signed(out: &mut [u8], value: i64)
     ensures { λ _. ⌜ now (out .exit) ≡ signedColumnOf (length (now (out .entry))) value ⌝ }
 {
-    write_column(out, value < 0, magnitude(value))
+    write_column(out, value < 0, values::magnitude(value))
 }
 
 // The number that a digit stands for, and 0 for any other byte.

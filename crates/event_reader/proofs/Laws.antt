@@ -13,7 +13,8 @@ use lib.ListN.{length, getD, take, drop, length-append, length-drop}
 use lib.Seq.{take-at, drop-at, take-add, length-take-le, getD-at}
 use Rattle.columns.specs.declared.Signed.{Signed}
 use Rattle.columns.specs.declared.Signed.the-variants.{Is, Bad}
-use Rattle.columns.specs.Column.{signedColumnOf, signedOf, isNegative}
+use Rattle.values.specs.Values.{isNegative}
+use Rattle.columns.specs.Column.{signedColumnOf, signedOf}
 use Rattle.columns.specs.Fields.{total, columnsOf, numbersIn, fitting}
 use Rattle.columns.specs.Laws.{digits}
 use Rattle.columns.proofs.Laws.{length-column, length-columns, fitting-length, fields-read-back, fields-written-again, signed-read-back, signed-written-again}

@@ -18,9 +18,6 @@ pub const ENTRY: usize = 3;
 // How many places a point has: 100 for each of 27759 days.
 pub const POINT_PLACES: u64 = 2775900;
 
-// The greatest magnitude.
-pub const MAGNITUDE_MOST: u64 = 99999999;
-
 // The reading shown for a place, by its stamp and the number stored, or none.
 pub enum Found {
     Shown(u64, u64),
@@ -100,7 +97,7 @@ fn entry_right(place: u64, stored: u64, end: u64, first: u64) -> bool
     if !quarter_right(slot) {
         return false;
     }
-    stored <= MAGNITUDE_MOST
+    stored <= values::MAGNITUDE_MOST
 }
 
 // Whether the entries are right: their stamps rise within 1..last, and each is right.

@@ -128,7 +128,7 @@ impl Service {
         let count = state.entries;
         let kept_stamp = state.kept_stamp;
         let kept_day = state.kept_day;
-        let magnitude = points::magnitude(value);
+        let magnitude = values::magnitude(value);
         journal::put(journal, count, stamp, looked.place, magnitude);
         let entries = count + 1;
         SubmitStep {

@@ -1,4 +1,4 @@
--- `columns::read_signed` meets its contract, by `Judged.antt` and `Sides.antt`. Assumes nothing.
+-- `columns::read_signed` meets its contract, by `Judged.antt` and the signs of `values`. Assumes nothing.
 use Prim.Native.Nat.{ℕ, _<_, _^_}
 use mathlib.Core.Path.{_≡_, refl, sym, ap, _∙_}
 use mathlib.Core.Bool.{Bool, true, false, not, _&&_}
@@ -11,7 +11,7 @@ use lib.ListN.{length}
 use Rattle.columns.specs.declared.Signed.the-variants.{Is}
 use Rattle.columns.specs.Column.{columnOf, sameBytes, signedIf, signedOf}
 use Rattle.columns.proofs.Judged.{narrow, value-fits, signed-refused, signed-judged}
-use Rattle.columns.proofs.Sides.{stays, negation-fits, negation-read}
+use Rattle.values.proofs.Signs.{stays, negation-fits, negation-read}
 use Rattle.columns.proofs.read_signed.Statement.{statement}
 use Rattle.columns.proofs.read_signed.Tie as tie
 
