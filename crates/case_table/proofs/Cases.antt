@@ -9,7 +9,7 @@ use Rattle.calendar.specs.Dates.{dayOf, yearOf}
 use Rattle.calendar.specs.Quarters.{lastSunday, quartersOf, quarterExists}
 use Rattle.columns.specs.Column.{columnOf, leadOf, valueFrom, sameBytes, numberOf, hasMinus, signedOf}
 use Rattle.columns.specs.Fields.{numbersIn, total, columnsOf}
-use Rattle.columns.specs.Line.{firstLine, afterLine}
+use Rattle.lines.specs.Line.{firstLine, afterLine}
 use Rattle.lines.specs.Lines.{lineIn}
 use Rattle.registration.specs.Code.{isCode, weighted}
 use Rattle.registration.specs.Rules.{pairsRight}

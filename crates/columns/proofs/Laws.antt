@@ -1,4 +1,4 @@
--- What is written is read back, and what is read is what is written: one column, several, and lines. Assumes nothing.
+-- What is written is read back, and what is read is what is written: one column, and several. Assumes nothing.
 use Prim.Native.Nat.{ℕ, zero, suc, _+_, _-_, _^_, _≤_, _<_}
 use mathlib.Core.Path.{_≡_, refl, sym, ap, _∙_}
 use mathlib.Core.Bool.{Bool, true, false, cond, not, _&&_}
@@ -24,10 +24,8 @@ use Rattle.columns.proofs.Front.{space-number, space-negative, room-neg
 use Rattle.columns.proofs.Minus.{no-minus, one-minus}
 pub use Rattle.columns.proofs.Clauses.{leadOf-suc, columnOf-suc, valueFrom-cons, sameBytes-cons, hasMinus-cons}
 pub use Rattle.columns.proofs.Clauses.{total-nil, total-cons, columnsOf-nil, columnsOf-cons, numbersIn-nil, numbersIn-cons, fitting-nil, fitting-cons}
-pub use Rattle.columns.proofs.Clauses.{firstLine-nil, firstLine-cons, afterLine-nil, afterLine-cons}
 pub use Rattle.columns.proofs.Fill.{length-column}
 pub use Rattle.columns.proofs.Lists.{fits-more, fits-first, fitting-length, length-columns, columns-append, total-append}
-pub use Rattle.columns.proofs.Lines.{Plain, plain-append, plain-column, plain-columns, first-plain, after-plain, lines-join, first-part, after-part, first-line-length, line-part, rest-part, end-within}
 
 -- ---- one column
 

@@ -6,5 +6,4 @@ pub mod Front
 pub mod Minus
 pub mod Judged
 pub mod Lists
-pub mod Lines
 pub mod Laws

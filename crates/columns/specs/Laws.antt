@@ -11,7 +11,6 @@ use Rattle.columns.specs.declared.Number.the-variants.{Is}
 use Rattle.columns.specs.declared.Signed.the-variants.{Is as IsSigned}
 use Rattle.columns.specs.Column.{columnOf, signedColumnOf, numberOf, signedOf}
 use Rattle.columns.specs.Fields.{total, columnsOf, numbersIn, fitting}
-use Rattle.columns.specs.Line.{firstLine, afterLine}
 
 -- a number that leaves a place for the leading space is read back from its column
 abbrev pub NumberReadBack : Type 0
@@ -48,7 +47,3 @@ abbrev pub FieldsWrittenAgain : Type 0
 FieldsWrittenAgain =
     (widths bytes numbers : List ℕ) → total widths ≤ length bytes → numbersIn widths bytes ≡ some numbers
     → (columnsOf widths numbers ≡ take (total widths) bytes) × (fitting widths numbers ≡ true)
-
--- a text is its first line and what follows
-abbrev pub LinesJoin : Type 0
-LinesJoin = (text : List ℕ) → firstLine text ++ afterLine text ≡ text

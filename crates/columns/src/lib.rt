@@ -1,12 +1,11 @@
-// A number in a column of fixed width, read and written, and the lines of a text.
+// A number in a column of fixed width, read and written.
 ghost use mathlib.Core.Path.{_≡_};
 ghost use mathlib.Core.Bool.{true, false, not, _&&_};
 ghost use mathlib.Core.List.{[], _∷_};
 ghost use Prim.Native.Nat.{_+_, _≤_, _<_};
 ghost use lib.Dec.{leb, eqb};
-ghost use lib.ListN.{length, getD, drop};
+ghost use lib.ListN.{length, getD};
 ghost use Rattle.columns.specs.Column.{byteBefore, columnOf, signedColumnOf, digitOf, valueFrom, sameBytes, hasMinus, numberOf, signedOf};
-ghost use Rattle.columns.specs.Line.{firstLine};
 ghost use Rattle.lists.specs.Place.{Put};
 
 // What stands in a column of a number.
@@ -26,9 +25,6 @@ pub const MINUS: u8 = 45;
 
 // What fills a column before its digits.
 pub const SPACE: u8 = 32;
-
-// The byte that ends a line.
-pub const LINE_FEED: u8 = 10;
 
 // The widest column that is read.
 const WIDEST: usize = 19;
@@ -205,21 +201,6 @@ pub fn read_signed(column: &[u8]) -> Signed
         return Signed::Bad;
     }
     Signed::Bad
-}
-
-// Where the line that begins at a place ends: after its LF, or at the text's end.
-pub fn line_end(text: &[u8], at: usize) -> usize
-    requires { ⌜ at ≤ length (now text) ⌝ }
-    ensures { λ r. ⌜ r ≡ at + length (firstLine (drop at (now (text .entry)))) ⌝ }
-{
-    let mut i = at;
-    while i < text.len() {
-        if text[i] == LINE_FEED {
-            return i + 1;
-        }
-        i += 1;
-    }
-    i
 }
 
 // Puts one byte at a place of a buffer, and returns the place after it.

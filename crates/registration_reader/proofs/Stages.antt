@@ -10,8 +10,8 @@ use Rattle.answers.specs.declared.Refusal.{Refusal}
 use Rattle.answers.specs.declared.Verdict.{Verdict}
 use Rattle.answers.specs.declared.Verdict.the-variants.{Accepted, Refused}
 use Rattle.columns.specs.Fields.{nth}
-use Rattle.columns.specs.Line.{firstLine, afterLine}
-use Rattle.columns.proofs.Laws.{line-part, rest-part, end-within}
+use Rattle.lines.specs.Line.{firstLine, afterLine}
+use Rattle.lines.proofs.Laws.{line-part, rest-part, end-within}
 use Rattle.lines.specs.Lines.{lineIn}
 use Rattle.registration.specs.declared.Registration.{Registration}
 use Rattle.registration_text.specs.declared.Answer.{Answer}

@@ -13,7 +13,7 @@ use Rattle.answers.specs.declared.Refusal.the-variants.{NotInColumns, CountOuts
 use Rattle.answers.specs.declared.Verdict.the-variants.{Accepted, Refused}
 use Rattle.answers.proofs.Refusals.{passed}
 use Rattle.columns.specs.Fields.{nth, isNone}
-use Rattle.columns.specs.Line.{firstLine}
+use Rattle.lines.specs.Line.{firstLine}
 use Rattle.lines.specs.Lines.{lineIn}
 use Rattle.registration.specs.declared.Registration.{Registration}
 use Rattle.registration.specs.Damage.{empty}
@@ -25,7 +25,7 @@ use Rattle.registration_text.specs.Lines.{letterG, widthsG}
 use Rattle.registration_text.specs.Reader.{Stage, stopped, going, unless, answered, verdictG, verdictOfAll, withCounts, readG, readD, readO, readText}
 use Rattle.registration_reader.specs.Parts.{Reached, groupAnswer}
 use Rattle.registration_reader.proofs.Answers.{was-refused, was-accepted}
-use Rattle.columns.proofs.Laws.{line-part, rest-part}
+use Rattle.lines.proofs.Laws.{line-part, rest-part}
 
 -- ---- the G line
 

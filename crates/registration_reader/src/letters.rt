@@ -147,7 +147,7 @@ fn rest_numbers(line: &[u8], count: usize) -> Pairs
     if line.len() != length {
         return no_pairs();
     }
-    if line[length - 1] != columns::LINE_FEED {
+    if line[length - 1] != lines::LINE_FEED {
         return no_pairs();
     }
     pair_numbers(&line[FIXED_O..], count)

@@ -10,7 +10,7 @@ use Rattle.answers.specs.Order.{refuse_if_else_}
 use Rattle.answers.specs.Numbers.{answerOf}
 use Rattle.columns.specs.Column.{columnOf, leadOf, valueFrom, sameBytes, numberOf}
 use Rattle.columns.specs.Fields.{numbersIn, total, columnsOf}
-use Rattle.columns.specs.Line.{firstLine, afterLine}
+use Rattle.lines.specs.Line.{firstLine, afterLine}
 use Rattle.lines.specs.Lines.{lineIn}
 use Rattle.lists.specs.Below.{every, differ, sumBelow}
 use Rattle.registration.specs.Code.{isCode, weighted}

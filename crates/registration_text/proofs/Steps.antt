@@ -15,7 +15,7 @@ use Rattle.answers.specs.declared.Verdict.the-variants.{Accepted, Refused}
 use Rattle.answers.specs.Order.{refuse_if_else_}
 use Rattle.answers.proofs.Refusals.{passed}
 use Rattle.columns.specs.Fields.{fitting, nth, isNone}
-use Rattle.columns.specs.Line.{firstLine, afterLine}
+use Rattle.lines.specs.Line.{firstLine, afterLine}
 use Rattle.lists.proofs.Below.{both}
 use Rattle.lines.specs.Lines.{lineOf, lineIn}
 use Rattle.lines.proofs.Laws.{begins-read, begins-written}

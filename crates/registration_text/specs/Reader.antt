@@ -11,7 +11,7 @@ use Rattle.answers.specs.declared.Verdict.{Verdict}
 use Rattle.answers.specs.declared.Verdict.the-variants.{Accepted, Refused}
 use Rattle.answers.specs.Order.{refuse_if_else_}
 use Rattle.columns.specs.Fields.{numbersIn, nth, isNone}
-use Rattle.columns.specs.Line.{firstLine, afterLine}
+use Rattle.lines.specs.Line.{firstLine, afterLine}
 use Rattle.lines.specs.Lines.{lineIn}
 use Rattle.registration.specs.declared.Registration.{Registration}
 use Rattle.registration.specs.Code.{isCode}
