@@ -97,7 +97,7 @@ pub fn judged(registration: Registration, rest: &[u8]) -> Answer
     let producers = registration.producers;
     let points = producers + registration.consumers;
     let codes = registration.codes;
-    if !registration::differ(&codes, points) {
+    if !lists::differ(&codes, points) {
         return refused(Refusal::CodeTwice);
     }
     let sources = registration.sources;
