@@ -7,8 +7,7 @@ use mathlib.Core.List.{List, [], _∷_}
 use lib.Dec.{leb, ltb}
 use borrow.Author.Tests.{lt-ltb, le-ltb, le-leb, lt-leb}
 use Rattle.lists.proofs.Below.{and-late}
-use Rattle.calendar.specs.Quarters.{quartersOf, quarterExists}
-use Rattle.calendar.proofs.Laws.{quarters-bounds}
+use Rattle.calendar.specs.Quarters.{quarterExists}
 use Rattle.journal.specs.Value.{storedRight}
 use Rattle.journal.specs.Entries.{Entry, pointIn, dayIn, quarterIn}
 use Rattle.journal.specs.Stored.{entryAt, entries}
@@ -73,16 +72,6 @@ slot-quarters place =
     let day : place % 2775900 / 100 ≡ dayIn place = omega arith in
     let quarter : place % 2775900 % 100 + 1 ≡ quarterIn place = omega arith in
     rw (day, quarter)
-
--- ---- a quarter of a day of the calendar: each has the first 92
-pub early-quarter : (day quarter : ℕ) → day ≤ 27758 → 1 ≤ quarter → quarter ≤ 92 → true ≡ quarterExists day quarter
-unfolding quarterExists
-early-quarter day quarter h l m =
-    rw (le-leb 1 quarter l, le-leb quarter (quartersOf day) (omega (arith, quarters-bounds day h)))
-
-pub later-quarter : (day quarter quarters : ℕ) → 1 ≤ quarter → quarters ≡ quartersOf day → leb quarter quarters ≡ quarterExists day quarter
-unfolding quarterExists
-later-quarter day quarter quarters l e = rw (e, le-leb 1 quarter l)
 
 -- ---- the entries from the first on
 module _ (points K last : ℕ) where

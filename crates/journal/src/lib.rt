@@ -1,11 +1,10 @@
 // The journal: a lent list of numbers, three an entry: stamp, place, and the magnitude that is stored.
 ghost use mathlib.Core.Path.{_≡_};
 ghost use mathlib.Core.Bool.{_&&_};
-ghost use Prim.Native.Nat.{ℕ, _+_, _*_, _/_, _%_, _≤_, _<_};
+ghost use Prim.Native.Nat.{ℕ, _+_, _*_, _≤_};
 ghost use lib.ListN.{length};
 ghost use lib.Dec.{leb, eqb};
 ghost use Rattle.lists.specs.Place.{placed};
-ghost use Rattle.calendar.specs.Quarters.{quarterExists};
 ghost use Rattle.journal.specs.Readings.{shown};
 ghost use Rattle.journal.specs.Entries.{placeOf, readingsAt};
 ghost use Rattle.journal.specs.Stored.{entries, numbers};
@@ -70,18 +69,6 @@ pub fn put(journal: &mut [u64], i: usize, stamp: u64, place: u64, stored: u64)
     journal[at + 2] = stored;
 }
 
-// Whether a day has a quarter, both as one number, day × 100 + quarter − 1. Every day has 92 quarters, so only for later ones the day is looked up.
-fn quarter_right(slot: u64) -> bool
-    requires { ⌜ slot < 2775900 ⌝ }
-    ensures { λ r. ⌜ r ≡ quarterExists (slot / 100) (slot % 100 + 1) ⌝ }
-{
-    let quarter = slot % 100 + 1;
-    if quarter <= 92 {
-        return true;
-    }
-    quarter <= calendar::quarters(slot / 100)
-}
-
 // Whether an entry is right, but for its stamp: its point, by the first place that is no point's, its day, by the first place of the kept day, its
 // quarter and its magnitude.
 fn entry_right(place: u64, stored: u64, end: u64, first: u64) -> bool
@@ -94,7 +81,7 @@ fn entry_right(place: u64, stored: u64, end: u64, first: u64) -> bool
     if slot < first {
         return false;
     }
-    if !quarter_right(slot) {
+    if !calendar::exists(slot / 100, slot % 100 + 1) {
         return false;
     }
     stored <= values::MAGNITUDE_MOST
