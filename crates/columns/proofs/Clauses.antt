@@ -6,7 +6,7 @@ use mathlib.Core.List.{List, [], _∷_, _++_}
 use mathlib.Core.Option.{some}
 use lib.Dec.{leb, ltb, eqb}
 use lib.ListN.{take, drop}
-use Rattle.columns.specs.Column.{byteBefore, leadOf, columnOf, digitOf, valueFrom, sameBytes, hasMinus, numberOf}
+use Rattle.columns.specs.Column.{byteBefore, leadOf, columnOf, digitOf, valueFrom, sameBytes, hasMinus, numberOf, widest}
 use Rattle.columns.specs.Fields.{total, columnsOf, withFirst, numbersIn, fitting}
 
 pub leadOf-suc : (minus : Bool) (w n : ℕ) → leadOf minus (suc w) n ≡ leadOf (minus && not (eqb n 0)) w (n / 10) ++ (byteBefore minus n ∷ [])
@@ -57,6 +57,6 @@ pub fitting-nil : fitting [] [] ≡ true
 unfolding fitting
 fitting-nil = refl
 
-pub fitting-cons : (w n : ℕ) (ws ns : List ℕ) → fitting (w ∷ ws) (n ∷ ns) ≡ (leb 2 w && leb w 19 && ltb n (10 ^ (w - 1)) && fitting ws ns)
+pub fitting-cons : (w n : ℕ) (ws ns : List ℕ) → fitting (w ∷ ws) (n ∷ ns) ≡ (leb 2 w && leb w widest && ltb n (10 ^ (w - 1)) && fitting ws ns)
 unfolding fitting
 fitting-cons w n ws ns = refl

@@ -14,7 +14,7 @@ use lib.Seq.{take-at, drop-at, take-add, length-take-le}
 use Rattle.columns.specs.declared.Number.{Number}
 use Rattle.columns.specs.declared.Number.the-variants.{Is, Bad}
 use Rattle.columns.specs.declared.Signed.the-variants.{Is as IsSigned}
-use Rattle.columns.specs.Column.{columnOf, signedColumnOf, valueFrom, isColumn, hasMinus, numberIf, numberOf, signedIf, signedOf}
+use Rattle.columns.specs.Column.{columnOf, signedColumnOf, valueFrom, isColumn, hasMinus, numberIf, numberOf, signedIf, signedOf, widest}
 use Rattle.columns.specs.Fields.{total, columnsOf, withFirst, numbersIn}
 use Rattle.columns.specs.Laws.{NumberReadBack, NumberWrittenAgain, SignedReadBack, SignedWrittenAgain, FieldsReadBack, FieldsWrittenAgain, digits}
 use Rattle.lists.proofs.Below.{both}
@@ -30,8 +30,8 @@ pub use Rattle.columns.proofs.Lists.{fits-more, fits-first, fitting-len
 -- ---- one column
 
 -- what is written passes the reader's tests, if a space stands in front
-passes : (minus : Bool) (w n : ℕ) → w ≤ 19 → n < 10 ^ w → getD (columnOf minus w n) 0 0 ≡ 32 → isColumn minus (columnOf minus w n) ≡ true
-passes minus w n l m f = rw (length-column, le-leb w 19 l, f, value-column minus w n m, same-self)
+passes : (minus : Bool) (w n : ℕ) → w ≤ widest → n < 10 ^ w → getD (columnOf minus w n) 0 0 ≡ 32 → isColumn minus (columnOf minus w n) ≡ true
+passes minus w n l m f = rw (length-column, le-leb w widest l, f, value-column minus w n m, same-self)
 
 more : (w n : ℕ) → n < 10 ^ w → n < 10 ^ suc w
 more w n h = omega (arith, most w (suc w) (omega arith))
@@ -47,14 +47,14 @@ number-read-back (suc (suc w)) n h l m =
 
 -- what the tests say of a column that passes them
 record Read (minus : Bool) (column : List ℕ) : Type 0 where
-  narrow : length column ≤ 19
+  narrow : length column ≤ widest
   space : getD column 0 0 ≡ 32
   is : columnOf minus (length column) (valueFrom 0 column) ≡ column
 
 read : (minus : Bool) (column : List ℕ) → isColumn minus column ≡ true → Read minus column
 read minus column t =
-    let a = both (leb (length column) 19 && eqb (getD column 0 0) 32) _ t in
-    let b = both (leb (length column) 19) _ (a .0) in
+    let a = both (leb (length column) widest && eqb (getD column 0 0) 32) _ t in
+    let b = both (leb (length column) widest) _ (a .0) in
     record { narrow = leb-true _ _ (b .0); space = eqb-true _ _ (b .1); is = same-eq _ _ (a .1) }
 
 number-if : (t : Bool) (v n : ℕ) → numberIf t v ≡ Is n → (t ≡ true) × (v ≡ n)
@@ -103,7 +103,7 @@ signed-if false minus n value e = let z : _≡_ {A = ℕ} 0 1 = cc in absurd (om
 
 -- a value that is read with or without a minus is written so
 written : (minus : Bool) (column : List ℕ) (n : ℕ) → n ≡ valueFrom 0 column → Read minus column → not (minus && eqb n 0) ≡ true
-    → (signedColumnOf (length column) (valued minus n) ≡ column) × (length column ≤ 19) × (natAbs (valued minus n) < 10 ^ digits (length column) (valued minus n))
+    → (signedColumnOf (length column) (valued minus n) ≡ column) × (length column ≤ widest) × (natAbs (valued minus n) < 10 ^ digits (length column) (valued minus n))
 written false column n e r t = rw e (r .is, r .narrow, value-room column (r .space) .1)
 written true column zero e r t = let z : _≡_ {A = ℕ} 0 1 = cc in absurd (omega arith)
 written true column (suc n) e r t =

@@ -50,10 +50,14 @@ sameBytes [] (y ∷ ys) = false
 sameBytes (x ∷ xs) [] = false
 sameBytes (x ∷ xs) (y ∷ ys) = eqb x y && sameBytes xs ys
 
--- at most 19 bytes with a space in front, and otherwise just what is written of the value
+-- the widest column that is read
+abbrev pub widest : ℕ
+widest = 19
+
+-- no wider than that, with a space in front, and otherwise just what is written of the value
 abbrev pub isColumn : Bool → List ℕ → Bool
 isColumn minus column =
-    leb (length column) 19 && eqb (getD column 0 0) 32 && sameBytes (columnOf minus (length column) (valueFrom 0 column)) column
+    leb (length column) widest && eqb (getD column 0 0) 32 && sameBytes (columnOf minus (length column) (valueFrom 0 column)) column
 
 -- a number, if it was in its column
 abbrev pub numberIf : Bool → ℕ → Number

@@ -7,7 +7,7 @@ use lib.ListN.{take, drop, getD}
 use lib.Dec.{leb, ltb}
 use Rattle.columns.specs.declared.Number.{Number}
 use Rattle.columns.specs.declared.Number.the-variants.{Is, Bad}
-use Rattle.columns.specs.Column.{columnOf, numberOf}
+use Rattle.columns.specs.Column.{columnOf, numberOf, widest}
 
 -- how many bytes columns of these widths take
 unfoldable pub total : List ℕ → ℕ
@@ -41,9 +41,9 @@ abbrev pub isNone : Option (List ℕ) → Bool
 isNone none = true
 isNone (some ns) = false
 
--- each number fits its column, of 2 to 19 places
+-- each number fits its column, of 2 places to the widest
 unfoldable pub fitting : List ℕ → List ℕ → Bool
 fitting [] [] = true
 fitting [] (n ∷ ns) = false
 fitting (w ∷ ws) [] = false
-fitting (w ∷ ws) (n ∷ ns) = leb 2 w && leb w 19 && ltb n (10 ^ (w - 1)) && fitting ws ns
+fitting (w ∷ ws) (n ∷ ns) = leb 2 w && leb w widest && ltb n (10 ^ (w - 1)) && fitting ws ns

@@ -5,7 +5,7 @@ ghost use mathlib.Core.List.{[], _∷_};
 ghost use Prim.Native.Nat.{_+_, _≤_, _<_};
 ghost use lib.Dec.{leb, eqb};
 ghost use lib.ListN.{length, getD};
-ghost use Rattle.columns.specs.Column.{byteBefore, columnOf, signedColumnOf, digitOf, valueFrom, sameBytes, hasMinus, numberOf, signedOf};
+ghost use Rattle.columns.specs.Column.{byteBefore, columnOf, signedColumnOf, digitOf, valueFrom, sameBytes, hasMinus, numberOf, signedOf, widest};
 ghost use Rattle.lists.specs.Place.{Put};
 
 // What stands in a column of a number.
@@ -101,7 +101,7 @@ fn digit_of(byte: u8) -> u64
 
 // The number that a column's digits make, whatever else stands there.
 fn value_of(column: &[u8]) -> u64
-    requires { ⌜ length (now column) ≤ 19 ⌝ }
+    requires { ⌜ length (now column) ≤ widest ⌝ }
     ensures { λ r. ⌜ r ≡ valueFrom 0 (now (column .entry)) ⌝ }
 {
     let mut value: u64 = 0;
@@ -115,7 +115,7 @@ fn value_of(column: &[u8]) -> u64
 
 // Whether a column is narrow enough and has a space in front.
 fn begins_well(column: &[u8]) -> bool
-    ensures { λ r. ⌜ r ≡ (leb (length (now (column .entry))) 19 && eqb (getD (now (column .entry)) 0 0) 32) ⌝ }
+    ensures { λ r. ⌜ r ≡ (leb (length (now (column .entry))) widest && eqb (getD (now (column .entry)) 0 0) 32) ⌝ }
 {
     if WIDEST < column.len() {
         return false;

@@ -3,6 +3,7 @@ ghost use mathlib.Core.Path.{_≡_};
 ghost use mathlib.Core.List.{[], _∷_};
 ghost use Prim.Native.Nat.{_+_, _≤_};
 ghost use lib.ListN.{length, drop};
+ghost use Rattle.columns.specs.Column.{widest};
 ghost use Rattle.columns.specs.Fields.{numbersIn};
 ghost use Rattle.lists.specs.Place.{Put};
 ghost use Rattle.lines.specs.Line.{firstLine};
@@ -86,7 +87,7 @@ pub fn is_framed(line: &[u8], letter: u8, size: usize) -> bool
 
 // The numbers of a line with this letter and two columns.
 pub fn line_of_two(line: &[u8], letter: u8, first: usize, second: usize) -> Two
-    requires { ⌜ (first ≤ 19) × (second ≤ 19) ⌝ }
+    requires { ⌜ (first ≤ widest) × (second ≤ widest) ⌝ }
     ensures { λ r. ⌜ twoOf r ≡ lineIn letter (first ∷ second ∷ []) (now (line .entry)) ⌝ }
 {
     if is_framed(line, letter, first + second) {
@@ -97,7 +98,7 @@ pub fn line_of_two(line: &[u8], letter: u8, first: usize, second: usize) -> Two
 
 // The numbers of a line with this letter and three columns.
 pub fn line_of_three(line: &[u8], letter: u8, first: usize, second: usize, third: usize) -> Three
-    requires { ⌜ (first ≤ 19) × (second ≤ 19) × (third ≤ 19) ⌝ }
+    requires { ⌜ (first ≤ widest) × (second ≤ widest) × (third ≤ widest) ⌝ }
     ensures { λ r. ⌜ threeOf r ≡ lineIn letter (first ∷ second ∷ third ∷ []) (now (line .entry)) ⌝ }
 {
     if is_framed(line, letter, first + second + third) {
