@@ -6,7 +6,7 @@ use mathlib.Core.List.{List, [], _∷_, _++_}
 use mathlib.Core.Option.{some}
 use lib.Dec.{leb, ltb, eqb}
 use lib.ListN.{take, drop}
-use Rattle.columns.specs.Column.{byteBefore, leadOf, columnOf, digitOf, valueFrom, sameBytes, hasMinus, numberOf, widest}
+use Rattle.columns.specs.Column.{byteBefore, leadOf, columnOf, digitOf, valueFrom, sameBytes, hasMinus, numberIn, widest}
 use Rattle.columns.specs.Fields.{total, columnsOf, withFirst, numbersIn, fitting}
 
 pub leadOf-suc : (minus : Bool) (w n : ℕ) → leadOf minus (suc w) n ≡ leadOf (minus && not (eqb n 0)) w (n / 10) ++ (byteBefore minus n ∷ [])
@@ -49,7 +49,7 @@ pub numbersIn-nil : (bytes : List ℕ) → numbersIn [] bytes ≡ some []
 unfolding numbersIn
 numbersIn-nil bytes = refl
 
-pub numbersIn-cons : (w : ℕ) (ws bytes : List ℕ) → numbersIn (w ∷ ws) bytes ≡ withFirst (numberOf (take w bytes)) (numbersIn ws (drop w bytes))
+pub numbersIn-cons : (w : ℕ) (ws bytes : List ℕ) → numbersIn (w ∷ ws) bytes ≡ withFirst (numberIn (take w bytes)) (numbersIn ws (drop w bytes))
 unfolding numbersIn
 numbersIn-cons w ws bytes = refl
 

@@ -9,7 +9,7 @@ use lib.Dec.{leb, eqb}
 use lib.ListN.{length, getD}
 use Rattle.columns.specs.declared.Number.the-variants.{Bad}
 use Rattle.columns.specs.declared.Signed.the-variants.{Bad as BadSigned}
-use Rattle.columns.specs.Column.{columnOf, valueFrom, sameBytes, hasMinus, numberIf, numberOf, signedIf, signedOf, widest}
+use Rattle.columns.specs.Column.{columnOf, valueFrom, sameBytes, hasMinus, numberIf, numberIn, signedIf, signedIn, widest}
 use Rattle.lists.proofs.Below.{both}
 use Rattle.columns.proofs.Values.{value-room, most}
 
@@ -27,21 +27,21 @@ module _ (column : List ℕ) where
       let v = value-room column (eqb-true _ _ (both (leb (length column) widest) _ b .1)) .1 in
       omega (arith, most (length column - 1) 18 (omega arith))
 
-  pub number-refused : begins column ≡ false → Bad ≡ numberOf column
-  unfolding numberOf
+  pub number-refused : begins column ≡ false → Bad ≡ numberIn column
+  unfolding numberIn
   number-refused b = rw b
 
-  pub signed-refused : begins column ≡ false → BadSigned ≡ signedOf column
-  unfolding signedOf
+  pub signed-refused : begins column ≡ false → BadSigned ≡ signedIn column
+  unfolding signedIn
   signed-refused b = rw b
 
   module _ (n : ℕ) (b : begins column ≡ true) (e : n ≡ valueFrom 0 column) where
-    pub number-judged : (test : Bool) → sameBytes (columnOf false (length column) n) column ≡ test → numberIf test n ≡ numberOf column
-    unfolding numberOf
+    pub number-judged : (test : Bool) → sameBytes (columnOf false (length column) n) column ≡ test → numberIf test n ≡ numberIn column
+    unfolding numberIn
     number-judged test t = rw (b, ← e, t)
 
     pub signed-judged : (minus test none : Bool)
         → hasMinus column ≡ minus → sameBytes (columnOf minus (length column) n) column ≡ test → eqb n 0 ≡ none
-        → signedIf (test && not (minus && none)) minus n ≡ signedOf column
-    unfolding signedOf
+        → signedIf (test && not (minus && none)) minus n ≡ signedIn column
+    unfolding signedIn
     signed-judged minus test none m t z = rw (b, ← e, m, t, z)

@@ -14,7 +14,7 @@ use lib.Seq.{take-at, drop-at, take-add, length-take-le}
 use Rattle.columns.specs.declared.Number.{Number}
 use Rattle.columns.specs.declared.Number.the-variants.{Is, Bad}
 use Rattle.columns.specs.declared.Signed.the-variants.{Is as IsSigned}
-use Rattle.columns.specs.Column.{columnOf, signedColumnOf, valueFrom, isColumn, hasMinus, numberIf, numberOf, signedIf, signedOf, widest}
+use Rattle.columns.specs.Column.{columnOf, signedColumnOf, valueFrom, isColumn, hasMinus, numberIf, numberIn, signedIf, signedIn, widest}
 use Rattle.columns.specs.Fields.{total, columnsOf, withFirst, numbersIn}
 use Rattle.columns.specs.Laws.{NumberReadBack, NumberWrittenAgain, SignedReadBack, SignedWrittenAgain, FieldsReadBack, FieldsWrittenAgain, digits}
 use Rattle.lists.proofs.Below.{both}
@@ -37,7 +37,7 @@ more : (w n : ℕ) → n < 10 ^ w → n < 10 ^ suc w
 more w n h = omega (arith, most w (suc w) (omega arith))
 
 pub number-read-back : NumberReadBack
-unfolding numberOf
+unfolding numberIn
 number-read-back zero n h l m = absurd (omega arith)
 number-read-back (suc zero) n h l m = absurd (omega arith)
 number-read-back (suc (suc w)) n h l m =
@@ -62,7 +62,7 @@ number-if true v n e = (refl, cc)
 number-if false v n e = let z : _≡_ {A = ℕ} 0 1 = cc in absurd (omega arith)
 
 pub number-written-again : NumberWrittenAgain
-unfolding numberOf
+unfolding numberIn
 number-written-again column n e =
     let a = number-if (isColumn false column) (valueFrom 0 column) n e in
     let r = read false column (a .0) in
@@ -72,7 +72,7 @@ number-written-again column n e =
 -- ---- a signed column
 
 pub signed-read-back : SignedReadBack
-unfolding signedOf
+unfolding signedIn
 signed-read-back zero value h l m = absurd (omega arith)
 signed-read-back (suc zero) value h l m = absurd (omega arith)
 signed-read-back (suc (suc zero)) value h l m = absurd (omega arith)
@@ -111,7 +111,7 @@ written true column (suc n) e r t =
     (s, r .narrow, room-negative (length column) (suc n) (ap (λ (l : List ℕ). getD l 0 0) s ∙ r .space))
 
 pub signed-written-again : SignedWrittenAgain
-unfolding signedOf
+unfolding signedIn
 signed-written-again column value e =
     let minus = hasMinus column in
     let n = valueFrom 0 column in
@@ -156,7 +156,7 @@ fields-written-again [] bytes numbers l e =
     let z : numbers ≡ [] = cc (numbersIn-nil bytes) in
     rw (z, columnsOf-nil, total-nil) (refl, fitting-nil)
 fields-written-again (w ∷ ws) bytes numbers l e =
-    let p = parts (numberOf (take w bytes)) (numbersIn ws (drop w bytes)) numbers (sym (numbersIn-cons w ws bytes) ∙ e) in
+    let p = parts (numberIn (take w bytes)) (numbersIn ws (drop w bytes)) numbers (sym (numbersIn-cons w ws bytes) ∙ e) in
     let k : w + total ws ≤ length bytes = rw total-cons at l in
     let q : length (take w bytes) ≡ w = length-take-le w bytes (omega arith) in
     let a = number-written-again (take w bytes) (p .n) (p .number) in

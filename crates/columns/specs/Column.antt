@@ -65,8 +65,8 @@ numberIf true n = Is n
 numberIf false n = Bad
 
 -- the number in a column
-unfoldable pub numberOf : List ℕ → Number
-numberOf column = numberIf (isColumn false column) (valueFrom 0 column)
+unfoldable pub numberIn : List ℕ → Number
+numberIn column = numberIf (isColumn false column) (valueFrom 0 column)
 
 -- whether a minus stands among the bytes
 unfoldable pub hasMinus : List ℕ → Bool
@@ -80,8 +80,8 @@ signedIf true false n = IsSigned (pos n)
 signedIf false minus n = BadSigned
 
 -- the signed value in a column
-unfoldable pub signedOf : List ℕ → Signed
-signedOf column =
+unfoldable pub signedIn : List ℕ → Signed
+signedIn column =
     let minus = hasMinus column in
     let n = valueFrom 0 column in
     signedIf (isColumn minus column && not (minus && eqb n 0)) minus n

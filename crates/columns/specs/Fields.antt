@@ -7,7 +7,7 @@ use lib.ListN.{take, drop, getD}
 use lib.Dec.{leb, ltb}
 use Rattle.columns.specs.declared.Number.{Number}
 use Rattle.columns.specs.declared.Number.the-variants.{Is, Bad}
-use Rattle.columns.specs.Column.{columnOf, numberOf, widest}
+use Rattle.columns.specs.Column.{columnOf, numberIn, widest}
 
 -- how many bytes columns of these widths take
 unfoldable pub total : List ℕ → ℕ
@@ -29,7 +29,7 @@ withFirst (Is n) (some ns) = some (n ∷ ns)
 -- the numbers in the columns of these widths at the front of the bytes, if each is in its column
 unfoldable pub numbersIn : List ℕ → List ℕ → Option (List ℕ)
 numbersIn [] bytes = some []
-numbersIn (w ∷ ws) bytes = withFirst (numberOf (take w bytes)) (numbersIn ws (drop w bytes))
+numbersIn (w ∷ ws) bytes = withFirst (numberIn (take w bytes)) (numbersIn ws (drop w bytes))
 
 -- the k-th of the numbers, 0 where there is none
 abbrev pub nth : ℕ → Option (List ℕ) → ℕ

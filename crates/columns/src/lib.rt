@@ -5,7 +5,7 @@ ghost use mathlib.Core.List.{[], _∷_};
 ghost use Prim.Native.Nat.{_+_, _≤_, _<_};
 ghost use lib.Dec.{leb, eqb};
 ghost use lib.ListN.{length, getD};
-ghost use Rattle.columns.specs.Column.{byteBefore, columnOf, signedColumnOf, digitOf, valueFrom, sameBytes, hasMinus, numberOf, signedOf, widest};
+ghost use Rattle.columns.specs.Column.{byteBefore, columnOf, signedColumnOf, digitOf, valueFrom, sameBytes, hasMinus, numberIn, signedIn, widest};
 ghost use Rattle.lists.specs.Place.{Put};
 
 // What stands in a column of a number.
@@ -152,7 +152,7 @@ fn is_written(column: &[u8], minus: bool, value: u64) -> bool
 
 // The number in a column.
 pub fn read_number(column: &[u8]) -> Number
-    ensures { λ r. ⌜ r ≡ numberOf (now (column .entry)) ⌝ }
+    ensures { λ r. ⌜ r ≡ numberIn (now (column .entry)) ⌝ }
 {
     if begins_well(column) {
         let value = value_of(column);
@@ -180,7 +180,7 @@ fn has_minus(column: &[u8]) -> bool
 
 // The signed value in a column.
 pub fn read_signed(column: &[u8]) -> Signed
-    ensures { λ r. ⌜ r ≡ signedOf (now (column .entry)) ⌝ }
+    ensures { λ r. ⌜ r ≡ signedIn (now (column .entry)) ⌝ }
 {
     if begins_well(column) {
         let value = value_of(column);

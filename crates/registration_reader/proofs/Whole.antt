@@ -22,7 +22,7 @@ use Rattle.registration.proofs.Damage.{point-bounds}
 use Rattle.registration_text.specs.declared.Answer.{Answer}
 use Rattle.registration_reader.specs.declared.Progress.{Progress}
 use Rattle.registration_text.specs.Lines.{letterG, widthsG}
-use Rattle.registration_text.specs.Reader.{Stage, stopped, going, unless, answered, verdictG, verdictOfAll, withCounts, readG, readD, readO, readText}
+use Rattle.registration_text.specs.Reader.{Stage, stopped, going, ifAccepted, answered, verdictG, verdictOfAll, withCounts, readG, readD, readO, readText}
 use Rattle.registration_reader.specs.Parts.{Reached, groupAnswer}
 use Rattle.registration_reader.proofs.Answers.{was-refused, was-accepted}
 use Rattle.lines.proofs.Laws.{line-part, rest-part}
@@ -41,7 +41,7 @@ module _ (text : List ℕ) (end : ℕ) (ends : end ≡ 0 + length (firstLine (dr
     (is : a ≡ groupAnswer (lineIn letterG widthsG (take end text))) where
   -- the stage after the line, with its verdict in front
   group-stage : let numbers = lineIn letterG widthsG (take end text) in
-      readG text ≡ unless (verdictG numbers) (going (withCounts (nth 0 numbers) (nth 1 numbers) (nth 2 numbers)) (drop end text))
+      readG text ≡ ifAccepted (verdictG numbers) (going (withCounts (nth 0 numbers) (nth 1 numbers) (nth 2 numbers)) (drop end text))
   unfolding readG
   group-stage =
       let whole : take end text ≡ firstLine text = rw (← sub-zero end) (line-part text 0 end ends) in
