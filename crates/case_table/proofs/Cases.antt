@@ -7,9 +7,9 @@ use Rattle.lists.specs.Place.{placed}
 use Rattle.calendar.specs.Civil.{yearLength, monthLength, daysBeforeYear, daysBeforeMonth, lastUpTo}
 use Rattle.calendar.specs.Dates.{dayOf, yearOf}
 use Rattle.calendar.specs.Quarters.{lastSunday, quartersOf, quarterExists}
-use Rattle.columns.specs.Column.{columnOf, leadOf, valueFrom, sameBytes, numberOf, hasMinus, signedOf}
+use Rattle.columns.specs.Column.{columnOf, leadOf, valueFrom, sameBytes, numberIn, hasMinus, signedIn}
 use Rattle.columns.specs.Fields.{numbersIn, total, columnsOf}
-use Rattle.columns.specs.Line.{firstLine, afterLine}
+use Rattle.lines.specs.Line.{firstLine, afterLine}
 use Rattle.lines.specs.Lines.{lineIn}
 use Rattle.registration.specs.Code.{isCode, weighted}
 use Rattle.registration.specs.Rules.{pairsRight}
@@ -38,5 +38,5 @@ use Rattle.event_text.specs.Share.{linesOf, registrationIn, eventsIn, answersTo
 use Rattle.case_table.specs.Table.{bytes, text, TableHolds}
 
 pub table-holds : TableHolds
-unfolding bytes text refuse_if_else_ every sumBelow differ joined placed yearLength monthLength daysBeforeYear daysBeforeMonth lastUpTo dayOf yearOf lastSunday quartersOf quarterExists columnOf leadOf valueFrom sameBytes numberOf hasMinus signedOf numbersIn total columnsOf firstLine afterLine lineIn isCode weighted pairsRight isDamaged empty widthsOfPairs readText readG readD readO fixedIn restIn verdictG verdictD verdictO verdictOfAll withPoint withCount withPair withPairs indexOf weaker shown keep entries flat written entryRight entriesRight roundsOf leftAt roundOf afterRounds allocationOf sumOf nearest earlier existing magnitudeOf evaluationOf damaged submissionVerdict clearVerdict earliest evaluationVerdict submitted cleared evaluated step callOn submissionIn clearIn evaluationIn eventIn linesOfConsumer linesS linesOfRemaining linesOfResult replyTo linesOf registrationIn eventsIn answersTo openingVerdict share
+unfolding bytes text refuse_if_else_ every sumBelow differ joined placed yearLength monthLength daysBeforeYear daysBeforeMonth lastUpTo dayOf yearOf lastSunday quartersOf quarterExists columnOf leadOf valueFrom sameBytes numberIn hasMinus signedIn numbersIn total columnsOf firstLine afterLine lineIn isCode weighted pairsRight isDamaged empty widthsOfPairs readText readG readD readO fixedIn restIn verdictG verdictD verdictO verdictOfAll withPoint withCount withPair withPairs indexOf weaker shown keep entries flat written entryRight entriesRight roundsOf leftAt roundOf afterRounds allocationOf sumOf nearest earlier existing magnitudeOf evaluationOf damaged submissionVerdict clearVerdict earliest evaluationVerdict submitted cleared evaluated step callOn submissionIn clearIn evaluationIn eventIn linesOfConsumer linesS linesOfRemaining linesOfResult replyTo linesOf registrationIn eventsIn answersTo openingVerdict share
 table-holds = refl

@@ -1,14 +1,13 @@
 -- The clauses of each recursive definition, as equations. Assumes nothing.
 use Prim.Native.Nat.{ℕ, suc, _+_, _-_, _*_, _/_, _%_, _^_}
 use mathlib.Core.Path.{_≡_, refl}
-use mathlib.Core.Bool.{Bool, true, false, cond, not, _&&_, _||_}
+use mathlib.Core.Bool.{Bool, true, false, not, _&&_, _||_}
 use mathlib.Core.List.{List, [], _∷_, _++_}
 use mathlib.Core.Option.{some}
 use lib.Dec.{leb, ltb, eqb}
 use lib.ListN.{take, drop}
-use Rattle.columns.specs.Column.{byteBefore, leadOf, columnOf, digitOf, valueFrom, sameBytes, hasMinus, numberOf}
+use Rattle.columns.specs.Column.{byteBefore, leadOf, columnOf, digitOf, valueFrom, sameBytes, hasMinus, numberIn, widest}
 use Rattle.columns.specs.Fields.{total, columnsOf, withFirst, numbersIn, fitting}
-use Rattle.columns.specs.Line.{firstLine, afterLine}
 
 pub leadOf-suc : (minus : Bool) (w n : ℕ) → leadOf minus (suc w) n ≡ leadOf (minus && not (eqb n 0)) w (n / 10) ++ (byteBefore minus n ∷ [])
 unfolding leadOf
@@ -50,7 +49,7 @@ pub numbersIn-nil : (bytes : List ℕ) → numbersIn [] bytes ≡ some []
 unfolding numbersIn
 numbersIn-nil bytes = refl
 
-pub numbersIn-cons : (w : ℕ) (ws bytes : List ℕ) → numbersIn (w ∷ ws) bytes ≡ withFirst (numberOf (take w bytes)) (numbersIn ws (drop w bytes))
+pub numbersIn-cons : (w : ℕ) (ws bytes : List ℕ) → numbersIn (w ∷ ws) bytes ≡ withFirst (numberIn (take w bytes)) (numbersIn ws (drop w bytes))
 unfolding numbersIn
 numbersIn-cons w ws bytes = refl
 
@@ -58,22 +57,6 @@ pub fitting-nil : fitting [] [] ≡ true
 unfolding fitting
 fitting-nil = refl
 
-pub fitting-cons : (w n : ℕ) (ws ns : List ℕ) → fitting (w ∷ ws) (n ∷ ns) ≡ (leb 2 w && leb w 19 && ltb n (10 ^ (w - 1)) && fitting ws ns)
+pub fitting-cons : (w n : ℕ) (ws ns : List ℕ) → fitting (w ∷ ws) (n ∷ ns) ≡ (leb 2 w && leb w widest && ltb n (10 ^ (w - 1)) && fitting ws ns)
 unfolding fitting
 fitting-cons w n ws ns = refl
-
-pub firstLine-nil : firstLine [] ≡ []
-unfolding firstLine
-firstLine-nil = refl
-
-pub afterLine-nil : afterLine [] ≡ []
-unfolding afterLine
-afterLine-nil = refl
-
-pub firstLine-cons : (byte : ℕ) (bytes : List ℕ) → firstLine (byte ∷ bytes) ≡ byte ∷ cond (eqb byte 10) [] (firstLine bytes)
-unfolding firstLine
-firstLine-cons byte bytes = refl
-
-pub afterLine-cons : (byte : ℕ) (bytes : List ℕ) → afterLine (byte ∷ bytes) ≡ cond (eqb byte 10) bytes (afterLine bytes)
-unfolding afterLine
-afterLine-cons byte bytes = refl

@@ -1,4 +1,4 @@
--- What is written is read back, and what is read is what is written: one column, several, and lines. Assumes nothing.
+-- What is written is read back, and what is read is what is written: one column, and several. Assumes nothing.
 use Prim.Native.Nat.{ℕ, zero, suc, _+_, _-_, _^_, _≤_, _<_}
 use mathlib.Core.Path.{_≡_, refl, sym, ap, _∙_}
 use mathlib.Core.Bool.{Bool, true, false, cond, not, _&&_}
@@ -14,7 +14,7 @@ use lib.Seq.{take-at, drop-at, take-add, length-take-le}
 use Rattle.columns.specs.declared.Number.{Number}
 use Rattle.columns.specs.declared.Number.the-variants.{Is, Bad}
 use Rattle.columns.specs.declared.Signed.the-variants.{Is as IsSigned}
-use Rattle.columns.specs.Column.{columnOf, signedColumnOf, valueFrom, isColumn, hasMinus, numberIf, numberOf, signedIf, signedOf}
+use Rattle.columns.specs.Column.{columnOf, signedColumnOf, valueFrom, isColumn, hasMinus, numberIf, numberIn, signedIf, signedIn, widest}
 use Rattle.columns.specs.Fields.{total, columnsOf, withFirst, numbersIn}
 use Rattle.columns.specs.Laws.{NumberReadBack, NumberWrittenAgain, SignedReadBack, SignedWrittenAgain, FieldsReadBack, FieldsWrittenAgain, digits}
 use Rattle.lists.proofs.Below.{both}
@@ -24,22 +24,20 @@ use Rattle.columns.proofs.Front.{space-number, space-negative, room-neg
 use Rattle.columns.proofs.Minus.{no-minus, one-minus}
 pub use Rattle.columns.proofs.Clauses.{leadOf-suc, columnOf-suc, valueFrom-cons, sameBytes-cons, hasMinus-cons}
 pub use Rattle.columns.proofs.Clauses.{total-nil, total-cons, columnsOf-nil, columnsOf-cons, numbersIn-nil, numbersIn-cons, fitting-nil, fitting-cons}
-pub use Rattle.columns.proofs.Clauses.{firstLine-nil, firstLine-cons, afterLine-nil, afterLine-cons}
 pub use Rattle.columns.proofs.Fill.{length-column}
 pub use Rattle.columns.proofs.Lists.{fits-more, fits-first, fitting-length, length-columns, columns-append, total-append}
-pub use Rattle.columns.proofs.Lines.{Plain, plain-append, plain-column, plain-columns, first-plain, after-plain, lines-join, first-part, after-part, first-line-length, line-part, rest-part, end-within}
 
 -- ---- one column
 
 -- what is written passes the reader's tests, if a space stands in front
-passes : (minus : Bool) (w n : ℕ) → w ≤ 19 → n < 10 ^ w → getD (columnOf minus w n) 0 0 ≡ 32 → isColumn minus (columnOf minus w n) ≡ true
-passes minus w n l m f = rw (length-column, le-leb w 19 l, f, value-column minus w n m, same-self)
+passes : (minus : Bool) (w n : ℕ) → w ≤ widest → n < 10 ^ w → getD (columnOf minus w n) 0 0 ≡ 32 → isColumn minus (columnOf minus w n) ≡ true
+passes minus w n l m f = rw (length-column, le-leb w widest l, f, value-column minus w n m, same-self)
 
 more : (w n : ℕ) → n < 10 ^ w → n < 10 ^ suc w
 more w n h = omega (arith, most w (suc w) (omega arith))
 
 pub number-read-back : NumberReadBack
-unfolding numberOf
+unfolding numberIn
 number-read-back zero n h l m = absurd (omega arith)
 number-read-back (suc zero) n h l m = absurd (omega arith)
 number-read-back (suc (suc w)) n h l m =
@@ -49,14 +47,14 @@ number-read-back (suc (suc w)) n h l m =
 
 -- what the tests say of a column that passes them
 record Read (minus : Bool) (column : List ℕ) : Type 0 where
-  narrow : length column ≤ 19
+  narrow : length column ≤ widest
   space : getD column 0 0 ≡ 32
   is : columnOf minus (length column) (valueFrom 0 column) ≡ column
 
 read : (minus : Bool) (column : List ℕ) → isColumn minus column ≡ true → Read minus column
 read minus column t =
-    let a = both (leb (length column) 19 && eqb (getD column 0 0) 32) _ t in
-    let b = both (leb (length column) 19) _ (a .0) in
+    let a = both (leb (length column) widest && eqb (getD column 0 0) 32) _ t in
+    let b = both (leb (length column) widest) _ (a .0) in
     record { narrow = leb-true _ _ (b .0); space = eqb-true _ _ (b .1); is = same-eq _ _ (a .1) }
 
 number-if : (t : Bool) (v n : ℕ) → numberIf t v ≡ Is n → (t ≡ true) × (v ≡ n)
@@ -64,7 +62,7 @@ number-if true v n e = (refl, cc)
 number-if false v n e = let z : _≡_ {A = ℕ} 0 1 = cc in absurd (omega arith)
 
 pub number-written-again : NumberWrittenAgain
-unfolding numberOf
+unfolding numberIn
 number-written-again column n e =
     let a = number-if (isColumn false column) (valueFrom 0 column) n e in
     let r = read false column (a .0) in
@@ -74,7 +72,7 @@ number-written-again column n e =
 -- ---- a signed column
 
 pub signed-read-back : SignedReadBack
-unfolding signedOf
+unfolding signedIn
 signed-read-back zero value h l m = absurd (omega arith)
 signed-read-back (suc zero) value h l m = absurd (omega arith)
 signed-read-back (suc (suc zero)) value h l m = absurd (omega arith)
@@ -105,7 +103,7 @@ signed-if false minus n value e = let z : _≡_ {A = ℕ} 0 1 = cc in absurd (om
 
 -- a value that is read with or without a minus is written so
 written : (minus : Bool) (column : List ℕ) (n : ℕ) → n ≡ valueFrom 0 column → Read minus column → not (minus && eqb n 0) ≡ true
-    → (signedColumnOf (length column) (valued minus n) ≡ column) × (length column ≤ 19) × (natAbs (valued minus n) < 10 ^ digits (length column) (valued minus n))
+    → (signedColumnOf (length column) (valued minus n) ≡ column) × (length column ≤ widest) × (natAbs (valued minus n) < 10 ^ digits (length column) (valued minus n))
 written false column n e r t = rw e (r .is, r .narrow, value-room column (r .space) .1)
 written true column zero e r t = let z : _≡_ {A = ℕ} 0 1 = cc in absurd (omega arith)
 written true column (suc n) e r t =
@@ -113,7 +111,7 @@ written true column (suc n) e r t =
     (s, r .narrow, room-negative (length column) (suc n) (ap (λ (l : List ℕ). getD l 0 0) s ∙ r .space))
 
 pub signed-written-again : SignedWrittenAgain
-unfolding signedOf
+unfolding signedIn
 signed-written-again column value e =
     let minus = hasMinus column in
     let n = valueFrom 0 column in
@@ -158,7 +156,7 @@ fields-written-again [] bytes numbers l e =
     let z : numbers ≡ [] = cc (numbersIn-nil bytes) in
     rw (z, columnsOf-nil, total-nil) (refl, fitting-nil)
 fields-written-again (w ∷ ws) bytes numbers l e =
-    let p = parts (numberOf (take w bytes)) (numbersIn ws (drop w bytes)) numbers (sym (numbersIn-cons w ws bytes) ∙ e) in
+    let p = parts (numberIn (take w bytes)) (numbersIn ws (drop w bytes)) numbers (sym (numbersIn-cons w ws bytes) ∙ e) in
     let k : w + total ws ≤ length bytes = rw total-cons at l in
     let q : length (take w bytes) ≡ w = length-take-le w bytes (omega arith) in
     let a = number-written-again (take w bytes) (p .n) (p .number) in

@@ -4,8 +4,6 @@ pub mod Same
 pub mod Values
 pub mod Front
 pub mod Minus
-pub mod Sides
 pub mod Judged
 pub mod Lists
-pub mod Lines
 pub mod Laws

@@ -7,21 +7,22 @@ use native.Mathlib.Omega.{arith}
 use borrow.Author.Tests.{leb-true, ltb-true, le-leb, lt-ltb}
 use lib.Dec.{leb, ltb}
 use lib.ListN.{length, length-append}
+use Rattle.columns.specs.Column.{widest}
 use Rattle.columns.specs.Fields.{total, columnsOf, fitting}
 use Rattle.columns.proofs.Clauses.{fitting-cons}
 use Rattle.columns.proofs.Fill.{length-column}
 use Rattle.lists.proofs.Below.{both}
 
 -- one more number that fits, and what that it fits says
-pub fits-more : (w n : ℕ) (ws ns : List ℕ) → 2 ≤ w → w ≤ 19 → n < 10 ^ (w - 1) → fitting ws ns ≡ true → fitting (w ∷ ws) (n ∷ ns) ≡ true
-fits-more w n ws ns h l m t = rw (fitting-cons, le-leb 2 w h, le-leb w 19 l, lt-ltb n (10 ^ (w - 1)) m, t)
+pub fits-more : (w n : ℕ) (ws ns : List ℕ) → 2 ≤ w → w ≤ widest → n < 10 ^ (w - 1) → fitting ws ns ≡ true → fitting (w ∷ ws) (n ∷ ns) ≡ true
+fits-more w n ws ns h l m t = rw (fitting-cons, le-leb 2 w h, le-leb w widest l, lt-ltb n (10 ^ (w - 1)) m, t)
 
-pub fits-first : (w n : ℕ) (ws ns : List ℕ) → fitting (w ∷ ws) (n ∷ ns) ≡ true → (2 ≤ w) × (w ≤ 19) × (n < 10 ^ (w - 1)) × (fitting ws ns ≡ true)
+pub fits-first : (w n : ℕ) (ws ns : List ℕ) → fitting (w ∷ ws) (n ∷ ns) ≡ true → (2 ≤ w) × (w ≤ widest) × (n < 10 ^ (w - 1)) × (fitting ws ns ≡ true)
 fits-first w n ws ns t =
-    let a = both (leb 2 w && leb w 19 && ltb n (10 ^ (w - 1))) (fitting ws ns) (sym (fitting-cons w n ws ns) ∙ t) in
-    let b = both (leb 2 w && leb w 19) (ltb n (10 ^ (w - 1))) (a .0) in
-    let d = both (leb 2 w) (leb w 19) (b .0) in
-    (leb-true 2 w (d .0), leb-true w 19 (d .1), ltb-true n (10 ^ (w - 1)) (b .1), a .1)
+    let a = both (leb 2 w && leb w widest && ltb n (10 ^ (w - 1))) (fitting ws ns) (sym (fitting-cons w n ws ns) ∙ t) in
+    let b = both (leb 2 w && leb w widest) (ltb n (10 ^ (w - 1))) (a .0) in
+    let d = both (leb 2 w) (leb w widest) (b .0) in
+    (leb-true 2 w (d .0), leb-true w widest (d .1), ltb-true n (10 ^ (w - 1)) (b .1), a .1)
 
 -- numbers that fit are as many as the widths
 pub fitting-length : (ws ns : List ℕ) → fitting ws ns ≡ true → length ws ≡ length ns

@@ -3,9 +3,10 @@
 use Prim.Native.Nat.{ℕ, zero, suc, _+_, _-_, _*_, _/_, _%_}
 use mathlib.Core.Bool.{Bool, true, false, cond, not, _&&_, _||_}
 use mathlib.Core.List.{List, [], _∷_, _++_}
-use lib.IntN.{ℤ, pos, negsuc, negℤ, natAbs}
+use lib.IntN.{ℤ, pos, negℤ, natAbs}
 use lib.ListN.{length, getD}
 use lib.Dec.{leb, ltb, eqb}
+use Rattle.values.specs.Values.{isNegative}
 use Rattle.columns.specs.declared.Number.{Number}
 use Rattle.columns.specs.declared.Number.the-variants.{Is, Bad}
 use Rattle.columns.specs.declared.Signed.{Signed}
@@ -26,11 +27,6 @@ leadOf minus (suc w) n = leadOf (minus && not (eqb n 0)) w (n / 10) ++ (byteBefo
 unfoldable pub columnOf : Bool → ℕ → ℕ → List ℕ
 columnOf minus zero n = []
 columnOf minus (suc w) n = leadOf minus w (n / 10) ++ ((48 + n % 10) ∷ [])
-
--- whether a value is below 0
-abbrev pub isNegative : ℤ → Bool
-isNegative (pos n) = false
-isNegative (negsuc n) = true
 
 -- the column of a signed value
 abbrev pub signedColumnOf : ℕ → ℤ → List ℕ
@@ -54,10 +50,14 @@ sameBytes [] (y ∷ ys) = false
 sameBytes (x ∷ xs) [] = false
 sameBytes (x ∷ xs) (y ∷ ys) = eqb x y && sameBytes xs ys
 
--- at most 19 bytes with a space in front, and otherwise just what is written of the value
+-- the widest column that is read
+abbrev pub widest : ℕ
+widest = 19
+
+-- no wider than that, with a space in front, and otherwise just what is written of the value
 abbrev pub isColumn : Bool → List ℕ → Bool
 isColumn minus column =
-    leb (length column) 19 && eqb (getD column 0 0) 32 && sameBytes (columnOf minus (length column) (valueFrom 0 column)) column
+    leb (length column) widest && eqb (getD column 0 0) 32 && sameBytes (columnOf minus (length column) (valueFrom 0 column)) column
 
 -- a number, if it was in its column
 abbrev pub numberIf : Bool → ℕ → Number
@@ -65,8 +65,8 @@ numberIf true n = Is n
 numberIf false n = Bad
 
 -- the number in a column
-unfoldable pub numberOf : List ℕ → Number
-numberOf column = numberIf (isColumn false column) (valueFrom 0 column)
+unfoldable pub numberIn : List ℕ → Number
+numberIn column = numberIf (isColumn false column) (valueFrom 0 column)
 
 -- whether a minus stands among the bytes
 unfoldable pub hasMinus : List ℕ → Bool
@@ -80,8 +80,8 @@ signedIf true false n = IsSigned (pos n)
 signedIf false minus n = BadSigned
 
 -- the signed value in a column
-unfoldable pub signedOf : List ℕ → Signed
-signedOf column =
+unfoldable pub signedIn : List ℕ → Signed
+signedIn column =
     let minus = hasMinus column in
     let n = valueFrom 0 column in
     signedIf (isColumn minus column && not (minus && eqb n 0)) minus n

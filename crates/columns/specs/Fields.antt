@@ -7,7 +7,7 @@ use lib.ListN.{take, drop, getD}
 use lib.Dec.{leb, ltb}
 use Rattle.columns.specs.declared.Number.{Number}
 use Rattle.columns.specs.declared.Number.the-variants.{Is, Bad}
-use Rattle.columns.specs.Column.{columnOf, numberOf}
+use Rattle.columns.specs.Column.{columnOf, numberIn, widest}
 
 -- how many bytes columns of these widths take
 unfoldable pub total : List ℕ → ℕ
@@ -29,7 +29,7 @@ withFirst (Is n) (some ns) = some (n ∷ ns)
 -- the numbers in the columns of these widths at the front of the bytes, if each is in its column
 unfoldable pub numbersIn : List ℕ → List ℕ → Option (List ℕ)
 numbersIn [] bytes = some []
-numbersIn (w ∷ ws) bytes = withFirst (numberOf (take w bytes)) (numbersIn ws (drop w bytes))
+numbersIn (w ∷ ws) bytes = withFirst (numberIn (take w bytes)) (numbersIn ws (drop w bytes))
 
 -- the k-th of the numbers, 0 where there is none
 abbrev pub nth : ℕ → Option (List ℕ) → ℕ
@@ -41,9 +41,9 @@ abbrev pub isNone : Option (List ℕ) → Bool
 isNone none = true
 isNone (some ns) = false
 
--- each number fits its column, of 2 to 19 places
+-- each number fits its column, of 2 places to the widest
 unfoldable pub fitting : List ℕ → List ℕ → Bool
 fitting [] [] = true
 fitting [] (n ∷ ns) = false
 fitting (w ∷ ws) [] = false
-fitting (w ∷ ws) (n ∷ ns) = leb 2 w && leb w 19 && ltb n (10 ^ (w - 1)) && fitting ws ns
+fitting (w ∷ ws) (n ∷ ns) = leb 2 w && leb w widest && ltb n (10 ^ (w - 1)) && fitting ws ns

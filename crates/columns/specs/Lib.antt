@@ -1,4 +1,3 @@
 pub mod Column
 pub mod Fields
-pub mod Line
 pub mod Laws

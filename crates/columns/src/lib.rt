@@ -1,13 +1,11 @@
-// A number in a column of fixed width, read and written, and the lines of a text.
+// A number in a column of fixed width, read and written.
 ghost use mathlib.Core.Path.{_≡_};
 ghost use mathlib.Core.Bool.{true, false, not, _&&_};
 ghost use mathlib.Core.List.{[], _∷_};
 ghost use Prim.Native.Nat.{_+_, _≤_, _<_};
 ghost use lib.Dec.{leb, eqb};
-ghost use lib.IntN.{natAbs};
-ghost use lib.ListN.{length, getD, drop};
-ghost use Rattle.columns.specs.Column.{byteBefore, columnOf, signedColumnOf, digitOf, valueFrom, sameBytes, hasMinus, numberOf, signedOf};
-ghost use Rattle.columns.specs.Line.{firstLine};
+ghost use lib.ListN.{length, getD};
+ghost use Rattle.columns.specs.Column.{byteBefore, columnOf, signedColumnOf, digitOf, valueFrom, sameBytes, hasMinus, numberIn, signedIn, widest};
 ghost use Rattle.lists.specs.Place.{Put};
 
 // What stands in a column of a number.
@@ -27,9 +25,6 @@ pub const MINUS: u8 = 45;
 
 // What fills a column before its digits.
 pub const SPACE: u8 = 32;
-
-// The byte that ends a line.
-pub const LINE_FEED: u8 = 10;
 
 // The widest column that is read.
 const WIDEST: usize = 19;
@@ -83,22 +78,11 @@ pub fn write_number(out: &mut [u8], value: u64)
     write_column(out, false, value)
 }
 
-// How far a value is from 0, at the least value too.
-fn magnitude(value: i64) -> u64
-    ensures { λ r. ⌜ r ≡ natAbs value ⌝ }
-{
-    if value < 0 {
-        (-(value + 1)) as u64 + 1
-    } else {
-        value as u64
-    }
-}
-
 // Fills a column with a signed value.
 pub fn write_signed(out: &mut [u8], value: i64)
     ensures { λ _. ⌜ now (out .exit) ≡ signedColumnOf (length (now (out .entry))) value ⌝ }
 {
-    write_column(out, value < 0, magnitude(value))
+    write_column(out, value < 0, values::magnitude(value))
 }
 
 // The number that a digit stands for, and 0 for any other byte.
@@ -117,7 +101,7 @@ fn digit_of(byte: u8) -> u64
 
 // The number that a column's digits make, whatever else stands there.
 fn value_of(column: &[u8]) -> u64
-    requires { ⌜ length (now column) ≤ 19 ⌝ }
+    requires { ⌜ length (now column) ≤ widest ⌝ }
     ensures { λ r. ⌜ r ≡ valueFrom 0 (now (column .entry)) ⌝ }
 {
     let mut value: u64 = 0;
@@ -131,7 +115,7 @@ fn value_of(column: &[u8]) -> u64
 
 // Whether a column is narrow enough and has a space in front.
 fn begins_well(column: &[u8]) -> bool
-    ensures { λ r. ⌜ r ≡ (leb (length (now (column .entry))) 19 && eqb (getD (now (column .entry)) 0 0) 32) ⌝ }
+    ensures { λ r. ⌜ r ≡ (leb (length (now (column .entry))) widest && eqb (getD (now (column .entry)) 0 0) 32) ⌝ }
 {
     if WIDEST < column.len() {
         return false;
@@ -168,7 +152,7 @@ fn is_written(column: &[u8], minus: bool, value: u64) -> bool
 
 // The number in a column.
 pub fn read_number(column: &[u8]) -> Number
-    ensures { λ r. ⌜ r ≡ numberOf (now (column .entry)) ⌝ }
+    ensures { λ r. ⌜ r ≡ numberIn (now (column .entry)) ⌝ }
 {
     if begins_well(column) {
         let value = value_of(column);
@@ -196,7 +180,7 @@ fn has_minus(column: &[u8]) -> bool
 
 // The signed value in a column.
 pub fn read_signed(column: &[u8]) -> Signed
-    ensures { λ r. ⌜ r ≡ signedOf (now (column .entry)) ⌝ }
+    ensures { λ r. ⌜ r ≡ signedIn (now (column .entry)) ⌝ }
 {
     if begins_well(column) {
         let value = value_of(column);
@@ -217,21 +201,6 @@ pub fn read_signed(column: &[u8]) -> Signed
         return Signed::Bad;
     }
     Signed::Bad
-}
-
-// Where the line that begins at a place ends: after its LF, or at the text's end.
-pub fn line_end(text: &[u8], at: usize) -> usize
-    requires { ⌜ at ≤ length (now text) ⌝ }
-    ensures { λ r. ⌜ r ≡ at + length (firstLine (drop at (now (text .entry)))) ⌝ }
-{
-    let mut i = at;
-    while i < text.len() {
-        if text[i] == LINE_FEED {
-            return i + 1;
-        }
-        i += 1;
-    }
-    i
 }
 
 // Puts one byte at a place of a buffer, and returns the place after it.

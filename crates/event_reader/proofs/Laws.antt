@@ -13,7 +13,8 @@ use lib.ListN.{length, getD, take, drop, length-append, length-drop}
 use lib.Seq.{take-at, drop-at, take-add, length-take-le, getD-at}
 use Rattle.columns.specs.declared.Signed.{Signed}
 use Rattle.columns.specs.declared.Signed.the-variants.{Is, Bad}
-use Rattle.columns.specs.Column.{signedColumnOf, signedOf, isNegative}
+use Rattle.values.specs.Values.{isNegative}
+use Rattle.columns.specs.Column.{signedColumnOf, signedIn}
 use Rattle.columns.specs.Fields.{total, columnsOf, numbersIn, fitting}
 use Rattle.columns.specs.Laws.{digits}
 use Rattle.columns.proofs.Laws.{length-column, length-columns, fitting-length, fields-read-back, fields-written-again, signed-read-back, signed-written-again}
@@ -24,7 +25,7 @@ use Rattle.lists.proofs.Below.{both}
 use Rattle.lists.proofs.Cases.{by-test}
 use Rattle.event_reader.specs.declared.Event.{Event}
 use Rattle.event_reader.specs.declared.Event.the-variants.{Submission, Clear, Evaluation, Malformed}
-use Rattle.event_reader.specs.Events.{letterM, letterC, letterE, widthsM, widthsC, widthsE, letterOf, submissionOf, submissionIn, clearOf, clearIn, evaluationOf, evaluationIn, eventIn}
+use Rattle.event_reader.specs.Events.{letterM, letterC, letterE, widthsM, widthsC, widthsE, letterOf, submissionFrom, submissionIn, clearFrom, clearIn, evaluationFrom, evaluationIn, eventIn}
 use Rattle.event_reader.specs.Laws.{lineOfEvent, Fits, EventReadBack, EventWrittenAgain}
 use Rattle.event_reader.proofs.Parts.{unframed, framed, with-m, with-c, with-e}
 
@@ -59,7 +60,7 @@ module _ (numbers : List ℕ) (value : ℤ) (fits : fitting widthsM numbers ≡ 
   frame : isFramed letterM 55 (letterM ∷ bytes) ≡ true
   frame = rw (length-bytes, last-byte)
 
-  submission-read : natAbs value < 10 ^ digits 10 value → submissionIn (letterM ∷ bytes) ≡ submissionOf (some numbers) (Is value)
+  submission-read : natAbs value < 10 ^ digits 10 value → submissionIn (letterM ∷ bytes) ≡ submissionFrom (some numbers) (Is value)
   submission-read h =
       framed (letterM ∷ bytes) frame
       ∙ rw (
@@ -74,9 +75,9 @@ unfolding clearIn evaluationIn
 event-read-back (Submission clock code date quarter value) fits =
     let numbers = clock ∷ code ∷ date ∷ quarter ∷ [] in
     sym (with-m _ refl) ∙ submission-read numbers value (fits .0) (fits .1)
-event-read-back (Clear date stamp) fits = sym (with-c _ refl) ∙ ap clearOf (line-read-back letterC widthsC (date ∷ stamp ∷ []) fits)
+event-read-back (Clear date stamp) fits = sym (with-c _ refl) ∙ ap clearFrom (line-read-back letterC widthsC (date ∷ stamp ∷ []) fits)
 event-read-back (Evaluation date quarter until) fits =
-    sym (with-e _ refl) ∙ ap evaluationOf (line-read-back letterE widthsE (date ∷ quarter ∷ until ∷ []) fits)
+    sym (with-e _ refl) ∙ ap evaluationFrom (line-read-back letterE widthsE (date ∷ quarter ∷ until ∷ []) fits)
 event-read-back Malformed fits = absurd fits
 
 -- ---- what is read is what is written
@@ -95,7 +96,7 @@ line-again letter widths line ns e =
 
 -- an M line that is read as numbers and a value is their line, and they fit
 submission-written : (line ns : List ℕ) (value : ℤ) → isFramed letterM 55 line ≡ true → numbersIn widthsM (drop 1 line) ≡ some ns
-    → signedOf (take 10 (drop 46 line)) ≡ Is value
+    → signedIn (take 10 (drop 46 line)) ≡ Is value
     → (letterM ∷ (columnsOf widthsM ns ++ (signedColumnOf 10 value ++ (10 ∷ []))) ≡ line) × (fitting widthsM ns ≡ true) × (natAbs value < 10 ^ digits 10 value)
 unfolding total
 submission-written [] ns value t e v = absurd (omega (arith, framed-length letterM 55 [] t))
@@ -113,16 +114,16 @@ submission-written (byte ∷ bytes) ns value t e v =
     (cc (first, whole), f .1, g .2)
 
 module _ (line : List ℕ) where
-  clear-again : (o : Option (List ℕ)) → lineIn letterC widthsC line ≡ o → Again line (clearOf o)
+  clear-again : (o : Option (List ℕ)) → lineIn letterC widthsC line ≡ o → Again line (clearFrom o)
   clear-again none e h = absurd (h refl)
   clear-again (some ns) e h = line-again letterC widthsC line ns e
 
-  evaluation-again : (o : Option (List ℕ)) → lineIn letterE widthsE line ≡ o → Again line (evaluationOf o)
+  evaluation-again : (o : Option (List ℕ)) → lineIn letterE widthsE line ≡ o → Again line (evaluationFrom o)
   evaluation-again none e h = absurd (h refl)
   evaluation-again (some ns) e h = line-again letterE widthsE line ns e
 
   submission-again : isFramed letterM 55 line ≡ true → (o : Option (List ℕ)) (v : Signed) → numbersIn widthsM (drop 1 line) ≡ o
-      → signedOf (take 10 (drop 46 line)) ≡ v → Again line (submissionOf o v)
+      → signedIn (take 10 (drop 46 line)) ≡ v → Again line (submissionFrom o v)
   submission-again t none v e q h = absurd (h refl)
   submission-again t (some ns) Bad e q h = absurd (h refl)
   submission-again t (some ns) (Is value) e q h =
@@ -135,7 +136,7 @@ module _ (line : List ℕ) where
   m-again : Again line (submissionIn line)
   m-again =
       by-test (isFramed letterM 55 line)
-      (λ t. rw (framed line t) (submission-again t (numbersIn widthsM (drop 1 line)) (signedOf (take 10 (drop 46 line))) refl refl))
+      (λ t. rw (framed line t) (submission-again t (numbersIn widthsM (drop 1 line)) (signedIn (take 10 (drop 46 line))) refl refl))
       (λ t h. absurd (h (sym (unframed line t))))
 
   c-again : Again line (clearIn line)

@@ -11,12 +11,12 @@ use lib.Seq.{drop-drop}
 use Rattle.columns.specs.declared.Number.{Number}
 use Rattle.columns.specs.declared.Number.the-variants.{Is, Bad}
 use Rattle.columns.specs.declared.Signed.{Signed}
-use Rattle.columns.specs.Column.{numberOf, signedOf}
+use Rattle.columns.specs.Column.{numberIn, signedIn}
 use Rattle.columns.specs.Fields.{total, withFirst, numbersIn}
 use Rattle.lines.specs.Lines.{isFramed}
 use Rattle.lines.proofs.Parts.{tail-part}
 use Rattle.event_reader.specs.declared.Event.the-variants.{Malformed}
-use Rattle.event_reader.specs.Events.{letterM, letterC, letterE, submissionOf, submissionIn, clearIn, evaluationIn, eventIn}
+use Rattle.event_reader.specs.Events.{letterM, letterC, letterE, submissionFrom, submissionIn, clearIn, evaluationIn, eventIn}
 
 -- numbers and then others, if all were in their columns
 abbrev pub andThen : Option (List ℕ) → Option (List ℕ) → Option (List ℕ)
@@ -39,7 +39,7 @@ one-first (Is n) (some ns) (some ms) = refl
 pub numbers-append : (ws vs bytes : List ℕ) → numbersIn (ws ++ vs) bytes ≡ andThen (numbersIn ws bytes) (numbersIn vs (drop (total ws) bytes))
 unfolding numbersIn total
 numbers-append [] vs bytes = none-first (numbersIn vs bytes)
-numbers-append (w ∷ ws) vs bytes = rw (numbers-append ws vs (drop w bytes), drop-drop) (one-first (numberOf (take w bytes)) (numbersIn ws (drop w bytes)) (numbersIn vs (drop (w + total ws) bytes)))
+numbers-append (w ∷ ws) vs bytes = rw (numbers-append ws vs (drop w bytes), drop-drop) (one-first (numberIn (take w bytes)) (numbersIn ws (drop w bytes)) (numbersIn vs (drop (w + total ws) bytes)))
 
 -- ---- an M line: 55 bytes between its letter and its LF
 
@@ -50,7 +50,7 @@ module _ (line : List ℕ) where
   unframed e = rw e
 
   -- in its frame it is what its columns say
-  pub framed : isFramed letterM 55 line ≡ true → submissionIn line ≡ submissionOf (numbersIn (13 ∷ 19 ∷ 9 ∷ 4 ∷ []) (drop 1 line)) (signedOf (take 10 (drop 46 line)))
+  pub framed : isFramed letterM 55 line ≡ true → submissionIn line ≡ submissionFrom (numbersIn (13 ∷ 19 ∷ 9 ∷ 4 ∷ []) (drop 1 line)) (signedIn (take 10 (drop 46 line)))
   unfolding submissionIn total
   framed e = rw e
 
@@ -58,7 +58,7 @@ module _ (line : List ℕ) where
   pub in-parts : (first second : Option (List ℕ)) (value : Signed) → isFramed letterM 55 line ≡ true
       → first ≡ numbersIn (13 ∷ 19 ∷ []) (take (length line - 1) (drop 1 line))
       → second ≡ numbersIn (9 ∷ 4 ∷ []) (take (length line - 33) (drop 33 line))
-      → value ≡ signedOf (take 10 (drop 46 line)) → submissionOf (andThen first second) value ≡ submissionIn line
+      → value ≡ signedIn (take 10 (drop 46 line)) → submissionFrom (andThen first second) value ≡ submissionIn line
   unfolding total
   in-parts first second value e p q r =
       let a = numbers-append (13 ∷ 19 ∷ []) (9 ∷ 4 ∷ []) (drop 1 line) in

@@ -7,7 +7,7 @@ use lib.ListN.{getD, take, drop}
 use lib.Dec.{eqb}
 use Rattle.columns.specs.declared.Signed.{Signed}
 use Rattle.columns.specs.declared.Signed.the-variants.{Is, Bad}
-use Rattle.columns.specs.Column.{signedOf}
+use Rattle.columns.specs.Column.{signedIn}
 use Rattle.columns.specs.Fields.{total, numbersIn}
 use Rattle.lines.specs.Lines.{isFramed, lineIn}
 use Rattle.event_reader.specs.declared.Event.{Event}
@@ -42,35 +42,35 @@ abbrev pub widthsE : List ℕ
 widthsE = 9 ∷ 4 ∷ 13 ∷ []
 
 -- a submission, if its numbers and its value are in their columns
-abbrev pub submissionOf : Option (List ℕ) → Signed → Event
-submissionOf none value = Malformed
-submissionOf (some numbers) Bad = Malformed
-submissionOf (some numbers) (Is value) = Submission (getD numbers 0 0) (getD numbers 1 0) (getD numbers 2 0) (getD numbers 3 0) value
+abbrev pub submissionFrom : Option (List ℕ) → Signed → Event
+submissionFrom none value = Malformed
+submissionFrom (some numbers) Bad = Malformed
+submissionFrom (some numbers) (Is value) = Submission (getD numbers 0 0) (getD numbers 1 0) (getD numbers 2 0) (getD numbers 3 0) value
 
 -- what an M line asks for: the letter, four numbers, the value, LF, and nothing else
 unfoldable pub submissionIn : List ℕ → Event
 submissionIn line =
     cond (isFramed letterM (total widthsM + widthOfValue) line)
-    (submissionOf (numbersIn widthsM (drop 1 line)) (signedOf (take widthOfValue (drop (1 + total widthsM) line))))
+    (submissionFrom (numbersIn widthsM (drop 1 line)) (signedIn (take widthOfValue (drop (1 + total widthsM) line))))
     Malformed
 
 -- a clear, if its numbers are in their columns
-abbrev pub clearOf : Option (List ℕ) → Event
-clearOf none = Malformed
-clearOf (some numbers) = Clear (getD numbers 0 0) (getD numbers 1 0)
+abbrev pub clearFrom : Option (List ℕ) → Event
+clearFrom none = Malformed
+clearFrom (some numbers) = Clear (getD numbers 0 0) (getD numbers 1 0)
 
 -- what a C line asks for
 unfoldable pub clearIn : List ℕ → Event
-clearIn line = clearOf (lineIn letterC widthsC line)
+clearIn line = clearFrom (lineIn letterC widthsC line)
 
 -- an evaluation, if its numbers are in their columns
-abbrev pub evaluationOf : Option (List ℕ) → Event
-evaluationOf none = Malformed
-evaluationOf (some numbers) = Evaluation (getD numbers 0 0) (getD numbers 1 0) (getD numbers 2 0)
+abbrev pub evaluationFrom : Option (List ℕ) → Event
+evaluationFrom none = Malformed
+evaluationFrom (some numbers) = Evaluation (getD numbers 0 0) (getD numbers 1 0) (getD numbers 2 0)
 
 -- what an E line asks for
 unfoldable pub evaluationIn : List ℕ → Event
-evaluationIn line = evaluationOf (lineIn letterE widthsE line)
+evaluationIn line = evaluationFrom (lineIn letterE widthsE line)
 
 -- the first byte of a line, 0 where it has none
 abbrev pub letterOf : List ℕ → ℕ

@@ -8,8 +8,8 @@ use lib.Dec.{eqb}
 use lib.ListN.{length, take, drop, length-append}
 use lib.Seq.{take-append-seam, drop-append-seam}
 use Rattle.lists.proofs.Cases.{by-test}
-use Rattle.columns.specs.Line.{firstLine, afterLine}
-use Rattle.columns.proofs.Laws.{firstLine-nil, firstLine-cons, afterLine-nil, afterLine-cons, lines-join}
+use Rattle.lines.specs.Line.{firstLine, afterLine}
+use Rattle.lines.proofs.Laws.{firstLine-nil, firstLine-cons, afterLine-nil, afterLine-cons, lines-join}
 use Rattle.event_text.specs.Share.{before, linesOf, isEvent, registrationIn, eventsIn}
 
 -- ---- the clauses of the definitions

@@ -8,8 +8,8 @@ use borrow.Author.Tests.{ne-eqb}
 use lib.Dec.{eqb}
 use lib.ListN.{length, getD, drop, length-append, length-drop, drop-of-length-le}
 use lib.Seq.{drop-cons}
-use Rattle.columns.specs.Line.{firstLine, afterLine}
-use Rattle.columns.proofs.Laws.{firstLine-cons, rest-part, lines-join}
+use Rattle.lines.specs.Line.{firstLine, afterLine}
+use Rattle.lines.proofs.Laws.{firstLine-cons, rest-part, lines-join}
 use Rattle.event_text.specs.Share.{isEvent, linesOf, registrationIn}
 use Rattle.event_text.specs.Contracts.{lineEnd}
 use Rattle.event_text.proofs.Cutting.{registration-none, registration-ended, registration-more}

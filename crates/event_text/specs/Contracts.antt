@@ -9,7 +9,7 @@ use Rattle.answers.specs.declared.Verdict.{Verdict}
 use Rattle.answers.specs.declared.Verdict.the-variants.{Accepted, Refused}
 use Rattle.answers.specs.Order.{refuse_if_else_}
 use Rattle.lists.specs.Place.{placed}
-use Rattle.columns.specs.Line.{afterLine}
+use Rattle.lines.specs.Line.{afterLine}
 use Rattle.service.specs.declared.Service.{Service}
 use Rattle.service.specs.Record.{freshService, zeroService, withState}
 use Rattle.event_text.specs.declared.Opened.{Opened}

@@ -10,7 +10,7 @@ use Rattle.answers.specs.declared.Verdict.the-variants.{Accepted}
 use Rattle.answers.specs.Numbers.{answerOf}
 use Rattle.lists.specs.Below.{sumBelow}
 use Rattle.columns.specs.Fields.{fitting}
-use Rattle.columns.specs.Line.{firstLine, afterLine}
+use Rattle.lines.specs.Line.{firstLine, afterLine}
 use Rattle.registration.specs.declared.Registration.{Registration}
 use Rattle.registration.specs.Rules.{countAt, sourceAt}
 use Rattle.allocation.specs.Result.{pairsIn}

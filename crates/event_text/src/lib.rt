@@ -58,7 +58,7 @@ fn events_start(input: &[u8]) -> usize
         if begins_event(input[at]) {
             return at;
         }
-        at = columns::line_end(input, at);
+        at = lines::line_end(input, at);
     }
     at
 }
@@ -111,7 +111,7 @@ pub fn line_end(input: &[u8], at: usize) -> usize
     ensures { λ r. ⌜ (r ≤ length (now (input .entry))) × (at < length (now (input .entry)) → at < r) ⌝ }
 {
     if at < input.len() {
-        return columns::line_end(input, at);
+        return lines::line_end(input, at);
     }
     input.len()
 }

@@ -41,7 +41,7 @@ fn put_consumer(
     let mut at = start;
     let mut priority = 0;
     while priority < count {
-        let source = registration::byte_number(sources[5 * consumer + priority]);
+        let source = lists::byte_number(sources[5 * consumer + priority]);
         let share = numbers[from + priority];
         at = lines::put_three(out, at, b'S', 4, 4, 10, number, source, share);
         priority += 1;

@@ -7,10 +7,9 @@ use mathlib.Core.List.{List, [], _∷_}
 use lib.Dec.{leb, ltb}
 use borrow.Author.Tests.{lt-ltb, le-ltb, le-leb, lt-leb}
 use Rattle.lists.proofs.Below.{and-late}
-use Rattle.calendar.specs.Quarters.{quartersOf, quarterExists}
-use Rattle.calendar.proofs.Laws.{quarters-bounds}
+use Rattle.calendar.specs.Quarters.{quarterExists}
 use Rattle.journal.specs.Value.{storedRight}
-use Rattle.journal.specs.Entries.{Entry, pointIn, dayIn, quarterIn}
+use Rattle.journal.specs.Entries.{Entry, pointIn, dayIn, quarterIn, pointPlaces}
 use Rattle.journal.specs.Stored.{entryAt, entries}
 use Rattle.journal.specs.Damage.{entryRight, entriesRight}
 use Rattle.journal.proofs.Stored.{rest, rest-start, rest-end, rest-step}
@@ -55,34 +54,24 @@ module _ (points K : ℕ) (e : Entry) where
 
 -- ---- one entry, by its place alone: the first place that is no point's, and the first of the kept day
 module _ (points K place : ℕ) where
-  pub beyond-points : points * 2775900 ≤ place → points ≤ pointIn place
+  pub beyond-points : points * pointPlaces ≤ place → points ≤ pointIn place
   beyond-points h = omega arith
 
-  pub within-points : place < points * 2775900 → pointIn place < points
+  pub within-points : place < points * pointPlaces → pointIn place < points
   within-points h = omega arith
 
-  pub before-day : place % 2775900 < K * 100 → dayIn place < K
+  pub before-day : place % pointPlaces < K * 100 → dayIn place < K
   before-day h = omega arith
 
-  pub from-day : K * 100 ≤ place % 2775900 → K ≤ dayIn place
+  pub from-day : K * 100 ≤ place % pointPlaces → K ≤ dayIn place
   from-day h = omega arith
 
 -- day and quarter as one number are those of the place
-pub slot-quarters : (place : ℕ) → quarterExists (place % 2775900 / 100) (place % 2775900 % 100 + 1) ≡ quarterExists (dayIn place) (quarterIn place)
+pub slot-quarters : (place : ℕ) → quarterExists (place % pointPlaces / 100) (place % pointPlaces % 100 + 1) ≡ quarterExists (dayIn place) (quarterIn place)
 slot-quarters place =
-    let day : place % 2775900 / 100 ≡ dayIn place = omega arith in
-    let quarter : place % 2775900 % 100 + 1 ≡ quarterIn place = omega arith in
+    let day : place % pointPlaces / 100 ≡ dayIn place = omega arith in
+    let quarter : place % pointPlaces % 100 + 1 ≡ quarterIn place = omega arith in
     rw (day, quarter)
-
--- ---- a quarter of a day of the calendar: each has the first 92
-pub early-quarter : (day quarter : ℕ) → day ≤ 27758 → 1 ≤ quarter → quarter ≤ 92 → true ≡ quarterExists day quarter
-unfolding quarterExists
-early-quarter day quarter h l m =
-    rw (le-leb 1 quarter l, le-leb quarter (quartersOf day) (omega (arith, quarters-bounds day h)))
-
-pub later-quarter : (day quarter quarters : ℕ) → 1 ≤ quarter → quarters ≡ quartersOf day → leb quarter quarters ≡ quarterExists day quarter
-unfolding quarterExists
-later-quarter day quarter quarters l e = rw (e, le-leb 1 quarter l)
 
 -- ---- the entries from the first on
 module _ (points K last : ℕ) where

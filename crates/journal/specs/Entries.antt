@@ -13,6 +13,10 @@ pub record Entry : Type 0 where
   pub place : ℕ
   pub stored : ℕ
 
+-- how many places a point has: 100 for each day of the calendar
+abbrev pub pointPlaces : ℕ
+pointPlaces = 2775900
+
 -- the place of a point, day and quarter: (point times 27759 + day) times 100 + quarter − 1
 abbrev pub placeOf : (point day quarter : ℕ) → ℕ
 placeOf point day quarter = (point * 27759 + day) * 100 + (quarter - 1)

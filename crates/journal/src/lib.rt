@@ -1,13 +1,13 @@
 // The journal: a lent list of numbers, three an entry: stamp, place, and the magnitude that is stored.
 ghost use mathlib.Core.Path.{_≡_};
 ghost use mathlib.Core.Bool.{_&&_};
-ghost use Prim.Native.Nat.{ℕ, _+_, _*_, _/_, _%_, _≤_, _<_};
+ghost use Prim.Native.Nat.{ℕ, _+_, _*_, _≤_};
 ghost use lib.ListN.{length};
 ghost use lib.Dec.{leb, eqb};
 ghost use Rattle.lists.specs.Place.{placed};
-ghost use Rattle.calendar.specs.Quarters.{quarterExists};
+ghost use Rattle.calendar.specs.Dates.{lastDay};
 ghost use Rattle.journal.specs.Readings.{shown};
-ghost use Rattle.journal.specs.Entries.{placeOf, readingsAt};
+ghost use Rattle.journal.specs.Entries.{pointPlaces, placeOf, readingsAt};
 ghost use Rattle.journal.specs.Stored.{entries, numbers};
 ghost use Rattle.journal.specs.Damage.{entryRight, entriesRight, Right};
 ghost use Rattle.journal.specs.Found.{found};
@@ -15,11 +15,8 @@ ghost use Rattle.journal.specs.Found.{found};
 // How many numbers an entry has.
 pub const ENTRY: usize = 3;
 
-// How many places a point has: 100 for each of 27759 days.
-pub const POINT_PLACES: u64 = 2775900;
-
-// The greatest magnitude.
-pub const MAGNITUDE_MOST: u64 = 99999999;
+// How many places a point has: 100 for each day of the calendar.
+pub const POINT_PLACES: u64 = 100 * calendar::DAYS;
 
 // The reading shown for a place, by its stamp and the number stored, or none.
 pub enum Found {
@@ -29,10 +26,10 @@ pub enum Found {
 
 // The place of a point, day and quarter.
 pub fn place(point: u64, day: u64, quarter: u64) -> u64
-    requires { ⌜ (point ≤ 64) × (day ≤ 27758) × (1 ≤ quarter) × (quarter ≤ 100) ⌝ }
+    requires { ⌜ (point ≤ 64) × (day ≤ lastDay) × (1 ≤ quarter) × (quarter ≤ 100) ⌝ }
     ensures { λ r. ⌜ r ≡ placeOf point day quarter ⌝ }
 {
-    (point * 27759 + day) * 100 + (quarter - 1)
+    (point * calendar::DAYS + day) * 100 + (quarter - 1)
 }
 
 // Whether an entry with this stamp and place is for a place, with a stamp up to `until`.
@@ -73,22 +70,10 @@ pub fn put(journal: &mut [u64], i: usize, stamp: u64, place: u64, stored: u64)
     journal[at + 2] = stored;
 }
 
-// Whether a day has a quarter, both as one number, day × 100 + quarter − 1. Every day has 92 quarters, so only for later ones the day is looked up.
-fn quarter_right(slot: u64) -> bool
-    requires { ⌜ slot < 2775900 ⌝ }
-    ensures { λ r. ⌜ r ≡ quarterExists (slot / 100) (slot % 100 + 1) ⌝ }
-{
-    let quarter = slot % 100 + 1;
-    if quarter <= 92 {
-        return true;
-    }
-    quarter <= calendar::quarters(slot / 100)
-}
-
 // Whether an entry is right, but for its stamp: its point, by the first place that is no point's, its day, by the first place of the kept day, its
 // quarter and its magnitude.
 fn entry_right(place: u64, stored: u64, end: u64, first: u64) -> bool
-    ensures { λ r. ⌜ ((points K : ℕ) → end ≡ points * 2775900 → first ≡ K * 100 → r ≡ entryRight points K (record { stamp = 0; place = place; stored = stored })) ⌝ }
+    ensures { λ r. ⌜ ((points K : ℕ) → end ≡ points * pointPlaces → first ≡ K * 100 → r ≡ entryRight points K (record { stamp = 0; place = place; stored = stored })) ⌝ }
 {
     if place >= end {
         return false;
@@ -97,15 +82,15 @@ fn entry_right(place: u64, stored: u64, end: u64, first: u64) -> bool
     if slot < first {
         return false;
     }
-    if !quarter_right(slot) {
+    if !calendar::exists(slot / 100, slot % 100 + 1) {
         return false;
     }
-    stored <= MAGNITUDE_MOST
+    stored <= values::MAGNITUDE_MOST
 }
 
 // Whether the entries are right: their stamps rise within 1..last, and each is right.
 pub fn right(journal: &[u64], count: usize, points: u64, kept_day: u64, last: u64) -> bool
-    requires { ⌜ (3 * count ≤ length (now journal)) × (points ≤ 64) × («kept_day» ≤ 27758) ⌝ }
+    requires { ⌜ (3 * count ≤ length (now journal)) × (points ≤ 64) × («kept_day» ≤ lastDay) ⌝ }
     ensures { λ r. ⌜ r ≡ entriesRight points «kept_day» last 0 (entries count (now (journal .entry))) ⌝ }
 {
     let end = points * POINT_PLACES;

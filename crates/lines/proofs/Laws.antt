@@ -11,11 +11,13 @@ use lib.Dec.{eqb}
 use lib.ListN.{length, getD, take, drop, length-append, drop-of-length-le}
 use lib.Seq.{getD-at, split-at}
 use Rattle.columns.specs.Fields.{total, columnsOf, numbersIn, fitting, nth, isNone}
-use Rattle.columns.specs.Line.{firstLine, afterLine}
-use Rattle.columns.proofs.Laws.{plain-columns, first-plain, after-plain, fields-read-back, fields-written-again, lines-join, fitting-length, length-columns}
+use Rattle.columns.proofs.Laws.{fields-read-back, fields-written-again, fitting-length, length-columns}
 use Rattle.lists.proofs.Below.{both}
+use Rattle.lines.specs.Line.{firstLine, afterLine}
 use Rattle.lines.specs.Lines.{lineOf, lineIn}
 use Rattle.lines.specs.Laws.{LineReadBack, LineWrittenAgain, LineFirst}
+use Rattle.lines.proofs.Line.{plain-columns, first-plain, after-plain}
+pub use Rattle.lines.proofs.Line.{firstLine-nil, firstLine-cons, afterLine-nil, afterLine-cons, lines-join, line-part, rest-part, end-within}
 
 -- a line is as long as its columns together, its letter and its LF
 pub length-line : (letter : ℕ) (ws ns : List ℕ) → length ws ≡ length ns → length (lineOf letter ws ns) ≡ total ws + 2

@@ -1,3 +1,4 @@
+pub mod Line
 pub mod Laws
 pub mod Parts
 pub mod Writing

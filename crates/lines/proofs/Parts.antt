@@ -11,7 +11,7 @@ use lib.Dec.{eqb}
 use lib.ListN.{length, getD, take, drop, length-drop}
 use lib.Seq.{take-all, drop-drop}
 use Rattle.columns.specs.declared.Number.{Number}
-use Rattle.columns.specs.Column.{numberOf}
+use Rattle.columns.specs.Column.{numberIn}
 use Rattle.columns.specs.Fields.{total, withFirst, numbersIn}
 use Rattle.columns.proofs.Laws.{numbersIn-nil, numbersIn-cons, total-nil, total-cons}
 use Rattle.lists.proofs.Below.{both}
@@ -59,21 +59,21 @@ module _ (letter size : ℕ) (widths line : List ℕ) (sized : total widths ≡ 
 -- ---- the columns
 
 -- what stands in the first column, and the numbers of the others
-pub first-column : (bytes : List ℕ) (w : ℕ) (ws : List ℕ) (n : Number) → n ≡ numberOf (take w bytes)
+pub first-column : (bytes : List ℕ) (w : ℕ) (ws : List ℕ) (n : Number) → n ≡ numberIn (take w bytes)
     → withFirst n (numbersIn ws (drop w bytes)) ≡ numbersIn (w ∷ ws) bytes
 first-column bytes w ws n e = rw (numbersIn-cons, e)
 
 -- the same of a column from a place on
-pub column : (line : List ℕ) (at w : ℕ) (ws : List ℕ) (n : Number) → n ≡ numberOf (take w (drop at line))
+pub column : (line : List ℕ) (at w : ℕ) (ws : List ℕ) (n : Number) → n ≡ numberIn (take w (drop at line))
     → numbersIn (w ∷ ws) (drop at line) ≡ withFirst n (numbersIn ws (drop (at + w) line))
 column line at w ws n e = rw (numbersIn-cons, e, drop-drop)
 
 -- the last column
-pub last-column : (line : List ℕ) (at w : ℕ) (n : Number) → n ≡ numberOf (take w (drop at line))
+pub last-column : (line : List ℕ) (at w : ℕ) (n : Number) → n ≡ numberIn (take w (drop at line))
     → numbersIn (w ∷ []) (drop at line) ≡ withFirst n (some [])
 last-column line at w n e = rw (numbersIn-cons, numbersIn-nil, e)
 
 -- the last column, as the part between two places
-pub last-part : (line : List ℕ) (at w : ℕ) (n : Number) → n ≡ numberOf (take (at + w - at) (drop at line))
+pub last-part : (line : List ℕ) (at w : ℕ) (n : Number) → n ≡ numberIn (take (at + w - at) (drop at line))
     → withFirst n (some []) ≡ numbersIn (w ∷ []) (drop at line)
 last-part line at w n e = sym (last-column line at w n (rw add-sub-cancel-left at e))

@@ -1,12 +1,16 @@
--- What lines promise, as statements; `proofs/Laws.antt` proves each, once over the letter and the widths. Assumes nothing.
+-- What lines promise, as statements; `proofs/Laws.antt` proves each, what concerns columns once over the letter and the widths. Assumes nothing.
 use Prim.Native.Nat.{ℕ}
 use mathlib.Core.Path.{_≡_}
 use mathlib.Core.Bool.{true}
 use mathlib.Core.List.{List, _++_}
 use mathlib.Core.Option.{some}
 use Rattle.columns.specs.Fields.{fitting}
-use Rattle.columns.specs.Line.{firstLine, afterLine}
+use Rattle.lines.specs.Line.{firstLine, afterLine}
 use Rattle.lines.specs.Lines.{lineOf, lineIn}
+
+-- a text is its first line and what follows
+abbrev pub LinesJoin : Type 0
+LinesJoin = (text : List ℕ) → firstLine text ++ afterLine text ≡ text
 
 -- a line of numbers that fit is read back
 abbrev pub LineReadBack : Type 0

@@ -1,12 +1,17 @@
-// Lines with a letter and two or three numbers in columns, read and written.
+// The lines of a text, and lines with a letter and two or three numbers in columns, read and written.
 ghost use mathlib.Core.Path.{_≡_};
 ghost use mathlib.Core.List.{[], _∷_};
 ghost use Prim.Native.Nat.{_+_, _≤_};
-ghost use lib.ListN.{length};
+ghost use lib.ListN.{length, drop};
+ghost use Rattle.columns.specs.Column.{widest};
 ghost use Rattle.columns.specs.Fields.{numbersIn};
 ghost use Rattle.lists.specs.Place.{Put};
+ghost use Rattle.lines.specs.Line.{firstLine};
 ghost use Rattle.lines.specs.Lines.{lineOf, isFramed, lineIn, twoOf, threeOf};
 use columns::Number;
+
+// The byte that ends a line.
+pub const LINE_FEED: u8 = 10;
 
 // Two numbers, if both are in their columns.
 pub enum Two {
@@ -18,6 +23,21 @@ pub enum Two {
 pub enum Three {
     Are(u64, u64, u64),
     Bad,
+}
+
+// Where the line that begins at a place ends: after its LF, or at the text's end.
+pub fn line_end(text: &[u8], at: usize) -> usize
+    requires { ⌜ at ≤ length (now text) ⌝ }
+    ensures { λ r. ⌜ r ≡ at + length (firstLine (drop at (now (text .entry)))) ⌝ }
+{
+    let mut i = at;
+    while i < text.len() {
+        if text[i] == LINE_FEED {
+            return i + 1;
+        }
+        i += 1;
+    }
+    i
 }
 
 // The numbers in the two columns at the front of the bytes.
@@ -62,12 +82,12 @@ pub fn is_framed(line: &[u8], letter: u8, size: usize) -> bool
     if line[0] != letter {
         return false;
     }
-    line[size + 1] == columns::LINE_FEED
+    line[size + 1] == LINE_FEED
 }
 
 // The numbers of a line with this letter and two columns.
 pub fn line_of_two(line: &[u8], letter: u8, first: usize, second: usize) -> Two
-    requires { ⌜ (first ≤ 19) × (second ≤ 19) ⌝ }
+    requires { ⌜ (first ≤ widest) × (second ≤ widest) ⌝ }
     ensures { λ r. ⌜ twoOf r ≡ lineIn letter (first ∷ second ∷ []) (now (line .entry)) ⌝ }
 {
     if is_framed(line, letter, first + second) {
@@ -78,7 +98,7 @@ pub fn line_of_two(line: &[u8], letter: u8, first: usize, second: usize) -> Two
 
 // The numbers of a line with this letter and three columns.
 pub fn line_of_three(line: &[u8], letter: u8, first: usize, second: usize, third: usize) -> Three
-    requires { ⌜ (first ≤ 19) × (second ≤ 19) × (third ≤ 19) ⌝ }
+    requires { ⌜ (first ≤ widest) × (second ≤ widest) × (third ≤ widest) ⌝ }
     ensures { λ r. ⌜ threeOf r ≡ lineIn letter (first ∷ second ∷ third ∷ []) (now (line .entry)) ⌝ }
 {
     if is_framed(line, letter, first + second + third) {
@@ -103,7 +123,7 @@ pub fn put_two(
     let after_letter = columns::put_byte(out, start, letter);
     let after_one = columns::put_number(out, after_letter, first, one);
     let after_other = columns::put_number(out, after_one, second, other);
-    columns::put_byte(out, after_other, columns::LINE_FEED)
+    columns::put_byte(out, after_other, LINE_FEED)
 }
 
 // Puts a line with this letter and three columns at a place of a buffer, and returns the place after it.
@@ -125,5 +145,5 @@ pub fn put_three(
     let after_one = columns::put_number(out, after_letter, first, one);
     let after_other = columns::put_number(out, after_one, second, other);
     let after_last = columns::put_number(out, after_other, third, last);
-    columns::put_byte(out, after_last, columns::LINE_FEED)
+    columns::put_byte(out, after_last, LINE_FEED)
 }

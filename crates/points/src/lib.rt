@@ -1,7 +1,6 @@
-// The points of a group by their codes, and the values that arrive for them: withdrawals as negative numbers, supplies as positive.
+// The points of a group by their codes, and the sign that suits each: withdrawals arrive as negative numbers, supplies as positive.
 ghost use mathlib.Core.Path.{_≡_};
 ghost use Prim.Native.Nat.{_≤_};
-ghost use lib.IntN.{natAbs};
 ghost use lib.ListN.{getD};
 ghost use Rattle.lists.specs.Tables.{table};
 ghost use Rattle.points.specs.Points.{indexOf, signSuits};
@@ -19,17 +18,6 @@ pub fn find(codes: &[u64; 64], points: usize, code: u64) -> usize
         point += 1;
     }
     points
-}
-
-// The magnitude of a value, of the least i64 too.
-pub fn magnitude(value: i64) -> u64
-    ensures { λ r. ⌜ r ≡ natAbs value ⌝ }
-{
-    if value < 0 {
-        (-(value + 1)) as u64 + 1
-    } else {
-        value as u64
-    }
 }
 
 // Whether a value's sign suits its point: the producers are the first points, and 0 suits either side.

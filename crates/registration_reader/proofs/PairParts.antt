@@ -10,7 +10,7 @@ use lib.ListN.{length, getD, take, drop, set, replicate}
 use lib.Seq.{set-out}
 use Rattle.columns.specs.declared.Number.{Number}
 use Rattle.columns.specs.declared.Number.the-variants.{Is, Bad}
-use Rattle.columns.specs.Column.{numberOf}
+use Rattle.columns.specs.Column.{numberIn}
 use Rattle.columns.specs.Fields.{withFirst, numbersIn}
 use Rattle.columns.proofs.Laws.{numbersIn-nil}
 use Rattle.registration.specs.Rules.{pairsRight}
@@ -19,7 +19,7 @@ use Rattle.registration.proofs.Places.{pairs-same}
 use Rattle.registration_reader.specs.declared.Pairs.{Pairs}
 use Rattle.registration_text.specs.Lines.{widthsOfPairs}
 use Rattle.registration_text.specs.Reader.{sourceIn, keyIn}
-use Rattle.registration_reader.specs.Parts.{five, pairsOf}
+use Rattle.registration_reader.specs.Parts.{five, byPriority}
 use Rattle.lines.proofs.Parts.{column}
 
 -- numbers and keys in turn, put at the priorities from one on
@@ -29,7 +29,7 @@ placed sources keys priority (source ∷ []) = record { good = true; sources = s
 placed sources keys priority (source ∷ key ∷ rest) = placed (set sources priority source) (set keys priority key) (suc priority) rest
 
 abbrev placedIf : (sources keys : List ℕ) → ℕ → Option (List ℕ) → Pairs
-placedIf sources keys priority none = pairsOf none
+placedIf sources keys priority none = byPriority none
 placedIf sources keys priority (some numbers) = placed sources keys priority numbers
 
 -- past the places nothing is put anywhere
@@ -41,7 +41,7 @@ beyond sources keys priority (source ∷ key ∷ rest) h k =
     rw (set-out sources priority source h, set-out keys priority key k) (beyond sources keys (suc priority) rest (omega arith) (omega arith))
 
 -- from zeros on, that gives the numbers and keys by priority
-spread : (numbers : Option (List ℕ)) → pairsOf numbers ≡ placedIf (replicate 5 0) (replicate 5 0) 0 numbers
+spread : (numbers : Option (List ℕ)) → byPriority numbers ≡ placedIf (replicate 5 0) (replicate 5 0) 0 numbers
 spread none = refl
 spread (some []) = refl
 spread (some (a ∷ [])) = refl
@@ -69,7 +69,7 @@ put : (sources keys : List ℕ) (priority source key : ℕ) (rest : Option (List
 put sources keys priority source key none = refl
 put sources keys priority source key (some numbers) = refl
 
-pub left-begin : (bytes : List ℕ) (count : ℕ) → pairsOf (numbersIn (widthsOfPairs count) bytes) ≡ left bytes count (replicate 5 0) (replicate 5 0) 0 0
+pub left-begin : (bytes : List ℕ) (count : ℕ) → byPriority (numbersIn (widthsOfPairs count) bytes) ≡ left bytes count (replicate 5 0) (replicate 5 0) 0 0
 unfolding left
 left-begin bytes count = rw (sub-zero count) (spread (numbersIn (widthsOfPairs count) bytes))
 
@@ -83,30 +83,30 @@ module _ (bytes : List ℕ) (count : ℕ) (sources keys : List ℕ) (priority at
 
   module _ (h : priority < count) where
     -- the columns that are left are a number's, a key's, and those of the later priorities
-    first : (n : Number) → n ≡ numberOf (take (at + 4 - at) (drop at bytes))
+    first : (n : Number) → n ≡ numberIn (take (at + 4 - at) (drop at bytes))
         → numbersIn (widthsOfPairs (count - priority)) (drop at bytes) ≡ withFirst n (numbersIn (6 ∷ widthsOfPairs (count - (priority + 1))) (drop (at + 4) bytes))
     first n e =
         let one-more : count - priority ≡ suc (count - (priority + 1)) = omega arith in
         let width : at + 4 - at ≡ 4 = omega arith in
         rw (one-more, widths-suc) (column bytes at 4 (6 ∷ widthsOfPairs (count - (priority + 1))) n (rw width at e))
 
-    second : (n : Number) → n ≡ numberOf (take (at + 10 - (at + 4)) (drop (at + 4) bytes))
+    second : (n : Number) → n ≡ numberIn (take (at + 10 - (at + 4)) (drop (at + 4) bytes))
         → numbersIn (6 ∷ widthsOfPairs (count - (priority + 1))) (drop (at + 4) bytes) ≡ withFirst n (numbersIn (widthsOfPairs (count - (priority + 1))) (drop (at + 10) bytes))
     second n e =
         let width : at + 10 - (at + 4) ≡ 6 = omega arith in
         let end : at + 10 ≡ at + 4 + 6 = omega arith in
         rw end (column bytes (at + 4) 6 (widthsOfPairs (count - (priority + 1))) n (rw width at e))
 
-    pub left-bad-source : Bad ≡ numberOf (take (at + 4 - at) (drop at bytes)) → left bytes count sources keys priority at ≡ pairsOf none
+    pub left-bad-source : Bad ≡ numberIn (take (at + 4 - at) (drop at bytes)) → left bytes count sources keys priority at ≡ byPriority none
     unfolding left
     left-bad-source e = ap (placedIf sources keys priority) (first Bad e)
 
-    module _ (source : ℕ) (is-source : Is source ≡ numberOf (take (at + 4 - at) (drop at bytes))) where
-      pub left-bad-key : Bad ≡ numberOf (take (at + 10 - (at + 4)) (drop (at + 4) bytes)) → left bytes count sources keys priority at ≡ pairsOf none
+    module _ (source : ℕ) (is-source : Is source ≡ numberIn (take (at + 4 - at) (drop at bytes))) where
+      pub left-bad-key : Bad ≡ numberIn (take (at + 10 - (at + 4)) (drop (at + 4) bytes)) → left bytes count sources keys priority at ≡ byPriority none
       unfolding left
       left-bad-key e = ap (placedIf sources keys priority) (first (Is source) is-source ∙ ap (withFirst (Is source)) (second Bad e))
 
-      pub left-next : (key : ℕ) → Is key ≡ numberOf (take (at + 10 - (at + 4)) (drop (at + 4) bytes))
+      pub left-next : (key : ℕ) → Is key ≡ numberIn (take (at + 10 - (at + 4)) (drop (at + 4) bytes))
           → left bytes count sources keys priority at ≡ left bytes count (set sources priority source) (set keys priority key) (priority + 1) (at + 10)
       unfolding left
       left-next key e =
@@ -124,7 +124,7 @@ five-at f (suc (suc (suc zero))) h = refl
 five-at f (suc (suc (suc (suc zero)))) h = refl
 five-at f (suc (suc (suc (suc (suc k))))) h = absurd (omega arith)
 
-module _ (pairs : Pairs) (rest : Option (List ℕ)) (is : pairs ≡ pairsOf rest) (count : ℕ) (few : count ≤ 5) where
+module _ (pairs : Pairs) (rest : Option (List ℕ)) (is : pairs ≡ byPriority rest) (count : ℕ) (few : count ≤ 5) where
   pub source-read : (k : ℕ) → k < count → getD (pairs .sources) k 0 ≡ sourceIn rest k
   source-read k h = ap (λ (p : Pairs). getD (p .sources) k 0) is ∙ five-at (sourceIn rest) k (omega arith)
 

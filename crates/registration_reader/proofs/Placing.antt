@@ -8,7 +8,7 @@ use lib.ListN.{getD}
 use Rattle.registration.specs.declared.Registration.{Registration}
 use Rattle.registration_reader.specs.declared.Pairs.{Pairs}
 use Rattle.registration_text.specs.Reader.{withPoint, withCount, withPair, withPairs, withConsumer}
-use Rattle.registration_reader.specs.Parts.{pairsOf}
+use Rattle.registration_reader.specs.Parts.{byPriority}
 use Rattle.registration_reader.proofs.PairParts.{source-read, key-read}
 
 module _ (r : Registration) (consumer : ℕ) (source key : ℕ → ℕ) where
@@ -60,7 +60,7 @@ pairs-consumers r consumer source key priority count = kept consumer source key 
 
 -- all that an O line says, put into the registration
 pub consumer-placed : (r placed : Registration) (consumer code status count : ℕ) (pairs : Pairs) (rest : Option (List ℕ))
-    → placed ≡ withPoint r (r .producers + consumer) code status → pairs ≡ pairsOf rest → count ≤ 5
+    → placed ≡ withPoint r (r .producers + consumer) code status → pairs ≡ byPriority rest → count ≤ 5
     → withPairs (withCount placed consumer count) consumer (λ k. getD (pairs .sources) k 0) (λ k. getD (pairs .keys) k 0) 0 count
     ≡ withConsumer r consumer (some (code ∷ status ∷ count ∷ [])) rest
 consumer-placed r placed consumer code status count pairs rest p is few =

@@ -10,13 +10,13 @@ use Rattle.answers.specs.declared.Refusal.{Refusal}
 use Rattle.answers.specs.declared.Verdict.{Verdict}
 use Rattle.answers.specs.declared.Verdict.the-variants.{Accepted, Refused}
 use Rattle.columns.specs.Fields.{nth}
-use Rattle.columns.specs.Line.{firstLine, afterLine}
-use Rattle.columns.proofs.Laws.{line-part, rest-part, end-within}
+use Rattle.lines.specs.Line.{firstLine, afterLine}
+use Rattle.lines.proofs.Laws.{line-part, rest-part, end-within}
 use Rattle.lines.specs.Lines.{lineIn}
 use Rattle.registration.specs.declared.Registration.{Registration}
 use Rattle.registration_text.specs.declared.Answer.{Answer}
 use Rattle.registration_text.specs.Lines.{letterD, widthsD}
-use Rattle.registration_text.specs.Reader.{Stage, going, unless, answered, fixedIn, restIn, verdictD, verdictO, sourceIn, keyIn, withPoint, withCount, withConsumer, readD, readO}
+use Rattle.registration_text.specs.Reader.{Stage, going, ifAccepted, answered, fixedIn, restIn, verdictD, verdictO, sourceIn, keyIn, withPoint, withCount, withConsumer, readD, readO}
 use Rattle.registration_reader.specs.Parts.{Reached}
 use Rattle.registration_reader.proofs.Answers.{was-refused, was-accepted}
 use Rattle.registration_reader.proofs.Placing.{pairs-producers, pairs-consumers}
@@ -29,7 +29,7 @@ pub record LineKind : Type 0 where
   pub next : Registration → ℕ → List ℕ → Registration
   pub none-left : (i : ℕ) (r : Registration) (text : List ℕ) → read i 0 r text ≡ going r text
   pub one-more : (i left : ℕ) (r : Registration) (text : List ℕ)
-      → read i (suc left) r text ≡ unless (verdict r (firstLine text)) (read (suc i) left (next r i (firstLine text)) (afterLine text))
+      → read i (suc left) r text ≡ ifAccepted (verdict r (firstLine text)) (read (suc i) left (next r i (firstLine text)) (afterLine text))
   pub producers : (r : Registration) (i : ℕ) (line : List ℕ) → next r i line .producers ≡ r .producers
   pub consumers : (r : Registration) (i : ℕ) (line : List ℕ) → next r i line .consumers ≡ r .consumers
 
@@ -62,7 +62,7 @@ module _ {kind : LineKind} {text : List ℕ} {count : ℕ} {begun : Registration
       (is : a ≡ answered (kind .verdict r (take (end - at) (drop at text))) (kind .next r i (take (end - at) (drop at text)))) where
     -- the stage, with the line's verdict in front
     stage-next : kind .read 0 count begun (drop start text)
-        ≡ unless (kind .verdict r (take (end - at) (drop at text))) (kind .read (suc i) (count - suc i) (kind .next r i (take (end - at) (drop at text))) (drop end text))
+        ≡ ifAccepted (kind .verdict r (take (end - at) (drop at text))) (kind .read (suc i) (count - suc i) (kind .next r i (take (end - at) (drop at text))) (drop end text))
     stage-next =
         let more : count - i ≡ suc (count - suc i) = omega arith in
         reading .stage ∙ rw (more, line-part text at end ends, rest-part text at end ends) (kind .one-more i (count - suc i) r (drop at text))
@@ -99,7 +99,7 @@ module _ (r : Registration) (text : List ℕ) where
   readD-none producer = refl
 
   pub readD-more : (producer left : ℕ) → let numbers = lineIn letterD widthsD (firstLine text) in
-      readD producer (suc left) r text ≡ unless (verdictD numbers) (readD (suc producer) left (withPoint r producer (nth 0 numbers) (nth 1 numbers)) (afterLine text))
+      readD producer (suc left) r text ≡ ifAccepted (verdictD numbers) (readD (suc producer) left (withPoint r producer (nth 0 numbers) (nth 1 numbers)) (afterLine text))
   unfolding readD
   readD-more producer left = refl
 
@@ -132,7 +132,7 @@ module _ (r : Registration) (text : List ℕ) where
   readO-none consumer = refl
 
   pub readO-more : (consumer left : ℕ) → let fixed = fixedIn (firstLine text) in let rest = restIn (nth 2 fixed) (firstLine text) in
-      readO consumer (suc left) r text ≡ unless (verdictO (r .producers) fixed rest) (readO (suc consumer) left (withConsumer r consumer fixed rest) (afterLine text))
+      readO consumer (suc left) r text ≡ ifAccepted (verdictO (r .producers) fixed rest) (readO (suc consumer) left (withConsumer r consumer fixed rest) (afterLine text))
   unfolding readO
   readO-more consumer left = refl
 

@@ -13,7 +13,7 @@ use Rattle.answers.specs.declared.Refusal.the-variants.{NotInColumns, CountOuts
 use Rattle.answers.specs.declared.Verdict.the-variants.{Accepted, Refused}
 use Rattle.answers.proofs.Refusals.{passed}
 use Rattle.columns.specs.Fields.{nth, isNone}
-use Rattle.columns.specs.Line.{firstLine}
+use Rattle.lines.specs.Line.{firstLine}
 use Rattle.lines.specs.Lines.{lineIn}
 use Rattle.registration.specs.declared.Registration.{Registration}
 use Rattle.registration.specs.Damage.{empty}
@@ -22,10 +22,10 @@ use Rattle.registration.proofs.Damage.{point-bounds}
 use Rattle.registration_text.specs.declared.Answer.{Answer}
 use Rattle.registration_reader.specs.declared.Progress.{Progress}
 use Rattle.registration_text.specs.Lines.{letterG, widthsG}
-use Rattle.registration_text.specs.Reader.{Stage, stopped, going, unless, answered, verdictG, verdictOfAll, withCounts, readG, readD, readO, readText}
+use Rattle.registration_text.specs.Reader.{Stage, stopped, going, ifAccepted, answered, verdictG, verdictOfAll, withCounts, readG, readD, readO, readText}
 use Rattle.registration_reader.specs.Parts.{Reached, groupAnswer}
 use Rattle.registration_reader.proofs.Answers.{was-refused, was-accepted}
-use Rattle.columns.proofs.Laws.{line-part, rest-part}
+use Rattle.lines.proofs.Laws.{line-part, rest-part}
 
 -- ---- the G line
 
@@ -41,7 +41,7 @@ module _ (text : List ℕ) (end : ℕ) (ends : end ≡ 0 + length (firstLine (dr
     (is : a ≡ groupAnswer (lineIn letterG widthsG (take end text))) where
   -- the stage after the line, with its verdict in front
   group-stage : let numbers = lineIn letterG widthsG (take end text) in
-      readG text ≡ unless (verdictG numbers) (going (withCounts (nth 0 numbers) (nth 1 numbers) (nth 2 numbers)) (drop end text))
+      readG text ≡ ifAccepted (verdictG numbers) (going (withCounts (nth 0 numbers) (nth 1 numbers) (nth 2 numbers)) (drop end text))
   unfolding readG
   group-stage =
       let whole : take end text ≡ firstLine text = rw (← sub-zero end) (line-part text 0 end ends) in

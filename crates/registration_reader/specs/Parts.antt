@@ -10,19 +10,19 @@ use Rattle.registration.specs.declared.Registration.{Registration}
 use Rattle.registration_text.specs.declared.Answer.{Answer}
 use Rattle.registration_reader.specs.declared.Pairs.{Pairs}
 use Rattle.registration_reader.specs.declared.Progress.{Progress}
-use Rattle.registration_text.specs.Reader.{Stage, going, unless, sourceIn, keyIn, verdictG, verdictD, verdictO, withCounts, withPoint, withConsumer, answered}
+use Rattle.registration_text.specs.Reader.{Stage, going, ifAccepted, sourceIn, keyIn, verdictG, verdictD, verdictO, withCounts, withPoint, withConsumer, answered}
 
 -- a function's values at the five priorities
 abbrev pub five : (ℕ → ℕ) → List ℕ
 five f = f 0 ∷ f 1 ∷ f 2 ∷ f 3 ∷ f 4 ∷ []
 
 -- an O line's numbers and keys by priority, zeros after them and where they are not in their columns
-abbrev pub pairsOf : Option (List ℕ) → Pairs
-pairsOf rest = record { good = not (isNone rest); sources = five (sourceIn rest); keys = five (keyIn rest) }
+abbrev pub byPriority : Option (List ℕ) → Pairs
+byPriority rest = record { good = not (isNone rest); sources = five (sourceIn rest); keys = five (keyIn rest) }
 
 -- a text that has been read up to a place
 abbrev pub stageOf : List ℕ → Progress → Stage
-stageOf text p = unless (p .verdict) (going (p .registration) (drop (p .at) text))
+stageOf text p = ifAccepted (p .verdict) (going (p .registration) (drop (p .at) text))
 
 -- lines were read as expected, from a registration with the same counts
 pub record Reached (text : List ℕ) (start : Registration) (expected : Stage) (p : Progress) : Type 0 where

@@ -7,7 +7,7 @@ ghost use Rattle.columns.specs.Fields.{nth, numbersIn};
 ghost use Rattle.lines.specs.Lines.{lineIn, threeOf};
 ghost use Rattle.registration_text.specs.Lines.{letterG, letterD, widthsG, widthsD, widthsOfPairs};
 ghost use Rattle.registration_text.specs.Reader.{fixedIn, restIn, withPoint, withCount, withPairs};
-ghost use Rattle.registration_reader.specs.Parts.{pairsOf, groupAnswer, producerAnswer, consumerAnswer};
+ghost use Rattle.registration_reader.specs.Parts.{byPriority, groupAnswer, producerAnswer, consumerAnswer};
 use super::Pairs;
 use super::reader::refused;
 use answers::Refusal;
@@ -100,7 +100,7 @@ fn fixed_numbers(line: &[u8]) -> Three
 fn pair_numbers(bytes: &[u8], count: usize) -> Pairs
     requires { ⌜ count ≤ 5 ⌝ }
     requires { ⌜ 10 * count ≤ length (now bytes) ⌝ }
-    ensures { λ r. ⌜ r ≡ pairsOf (numbersIn (widthsOfPairs count) (now (bytes .entry))) ⌝ }
+    ensures { λ r. ⌜ r ≡ byPriority (numbersIn (widthsOfPairs count) (now (bytes .entry))) ⌝ }
 {
     let mut sources = [0; 5];
     let mut keys = [0; 5];
@@ -129,7 +129,7 @@ fn pair_numbers(bytes: &[u8], count: usize) -> Pairs
 
 // What stands for numbers that are not in their columns.
 fn no_pairs() -> Pairs
-    ensures { λ r. ⌜ r ≡ pairsOf none ⌝ }
+    ensures { λ r. ⌜ r ≡ byPriority none ⌝ }
 {
     Pairs {
         good: false,
@@ -141,13 +141,13 @@ fn no_pairs() -> Pairs
 // The numbers of an O line's rest, after the fixed part: so many producers' numbers and keys.
 fn rest_numbers(line: &[u8], count: usize) -> Pairs
     requires { ⌜ count ≤ 5 ⌝ }
-    ensures { λ r. ⌜ r ≡ pairsOf (restIn count (now (line .entry))) ⌝ }
+    ensures { λ r. ⌜ r ≡ byPriority (restIn count (now (line .entry))) ⌝ }
 {
     let length = 10 * count + 25;
     if line.len() != length {
         return no_pairs();
     }
-    if line[length - 1] != columns::LINE_FEED {
+    if line[length - 1] != lines::LINE_FEED {
         return no_pairs();
     }
     pair_numbers(&line[FIXED_O..], count)

@@ -26,7 +26,7 @@ pub struct Progress {
 pub fn read(text: &[u8]) -> Answer
     ensures { λ r. ⌜ r ≡ readText (now (text .entry)) ⌝ }
 {
-    let end = columns::line_end(text, 0);
+    let end = lines::line_end(text, 0);
     let group = letters::read_group(&text[..end]);
     let verdict = group.verdict;
     if let Verdict::Refused(refusal) = verdict {

@@ -34,7 +34,7 @@ pub fn read_producers(text: &[u8], start: usize, registration: Registration) -> 
     let mut at = start;
     let mut producer = 0;
     while producer < producers {
-        let end = columns::line_end(text, at);
+        let end = lines::line_end(text, at);
         let answer = read_producer(&text[at..end], so_far, producer);
         let verdict = answer.verdict;
         if let Verdict::Refused(refusal) = verdict {
@@ -65,7 +65,7 @@ pub fn read_consumers(text: &[u8], start: usize, registration: Registration) -> 
     let mut at = start;
     let mut consumer = 0;
     while consumer < consumers {
-        let end = columns::line_end(text, at);
+        let end = lines::line_end(text, at);
         let answer = read_consumer(&text[at..end], so_far, consumer);
         let verdict = answer.verdict;
         if let Verdict::Refused(refusal) = verdict {
@@ -97,7 +97,7 @@ pub fn judged(registration: Registration, rest: &[u8]) -> Answer
     let producers = registration.producers;
     let points = producers + registration.consumers;
     let codes = registration.codes;
-    if !registration::differ(&codes, points) {
+    if !lists::differ(&codes, points) {
         return refused(Refusal::CodeTwice);
     }
     let sources = registration.sources;

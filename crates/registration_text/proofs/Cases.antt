@@ -8,9 +8,9 @@ use mathlib.Core.List.{List, [], _∷_}
 use lib.Dec.{eqb}
 use Rattle.answers.specs.Order.{refuse_if_else_}
 use Rattle.answers.specs.Numbers.{answerOf}
-use Rattle.columns.specs.Column.{columnOf, leadOf, valueFrom, sameBytes, numberOf}
+use Rattle.columns.specs.Column.{columnOf, leadOf, valueFrom, sameBytes, numberIn}
 use Rattle.columns.specs.Fields.{numbersIn, total, columnsOf}
-use Rattle.columns.specs.Line.{firstLine, afterLine}
+use Rattle.lines.specs.Line.{firstLine, afterLine}
 use Rattle.lines.specs.Lines.{lineIn}
 use Rattle.lists.specs.Below.{every, differ, sumBelow}
 use Rattle.registration.specs.Code.{isCode, weighted}
@@ -88,10 +88,10 @@ right [] = true
 right (r ∷ rest) = eqb (answerOf (readText (bytes (r .text)) .verdict)) (r .answer) && right rest
 
 answers : right rows ≡ true
-unfolding bytes g d1 o1 o2 row rows right refuse_if_else_ columnOf leadOf valueFrom sameBytes numberOf numbersIn total columnsOf firstLine afterLine every differ sumBelow isCode weighted pairsRight empty widthsOfPairs pairsFrom readText readG readD readO lineIn fixedIn restIn verdictG verdictD verdictO verdictOfAll withPoint withCount withPair withPairs
+unfolding bytes g d1 o1 o2 row rows right refuse_if_else_ columnOf leadOf valueFrom sameBytes numberIn numbersIn total columnsOf firstLine afterLine every differ sumBelow isCode weighted pairsRight empty widthsOfPairs pairsFrom readText readG readD readO lineIn fixedIn restIn verdictG verdictD verdictO verdictOfAll withPoint withCount withPair withPairs
 answers = refl
 
 -- the text of LIST, read, is written again as it was
 list : textOf (readText (bytes (g ++ d1 ++ o1 ++ o2)) .registration) ≡ bytes (g ++ d1 ++ o1 ++ o2)
-unfolding bytes g d1 o1 o2 refuse_if_else_ columnOf leadOf valueFrom sameBytes numberOf numbersIn total columnsOf firstLine afterLine every differ sumBelow isCode weighted pairsRight empty widthsOfPairs pairsFrom readText readG readD readO lineIn fixedIn restIn verdictG verdictD verdictO verdictOfAll withPoint withCount withPair withPairs textOf linesD linesO
+unfolding bytes g d1 o1 o2 refuse_if_else_ columnOf leadOf valueFrom sameBytes numberIn numbersIn total columnsOf firstLine afterLine every differ sumBelow isCode weighted pairsRight empty widthsOfPairs pairsFrom readText readG readD readO lineIn fixedIn restIn verdictG verdictD verdictO verdictOfAll withPoint withCount withPair withPairs textOf linesD linesO
 list = refl

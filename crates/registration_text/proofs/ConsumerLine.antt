@@ -11,7 +11,7 @@ use lib.Dec.{leb, eqb}
 use lib.ListN.{length, getD, take, drop, length-append, length-drop}
 use lib.Seq.{getD-at, getD-append-add, drop-at, take-add}
 use Rattle.columns.specs.Fields.{total, columnsOf, numbersIn, fitting, nth, isNone}
-use Rattle.columns.specs.Line.{firstLine, afterLine}
+use Rattle.lines.specs.Line.{firstLine, afterLine}
 use Rattle.columns.proofs.Laws.{fields-read-back, fields-written-again, fitting-length, length-columns, columns-append}
 use Rattle.lists.proofs.Below.{both}
 use Rattle.lines.specs.Lines.{lineOf}

@@ -15,7 +15,7 @@ use Rattle.answers.specs.declared.Verdict.the-variants.{Accepted, Refused}
 use Rattle.answers.specs.Order.{refuse_if_else_}
 use Rattle.answers.proofs.Refusals.{passed}
 use Rattle.columns.specs.Fields.{fitting, nth, isNone}
-use Rattle.columns.specs.Line.{firstLine, afterLine}
+use Rattle.lines.specs.Line.{firstLine, afterLine}
 use Rattle.lists.proofs.Below.{both}
 use Rattle.lines.specs.Lines.{lineOf, lineIn}
 use Rattle.lines.proofs.Laws.{begins-read, begins-written}
@@ -26,13 +26,13 @@ use Rattle.registration.proofs.Bounds.{count-bounds, pair-bounds}
 use Rattle.registration.proofs.Damage.{point-bounds}
 use Rattle.registration.proofs.Places.{pairs-same}
 use Rattle.registration_text.specs.Lines.{lineG, letterG, letterD, widthsG, widthsD, widthsO, widthsOfPairs}
-use Rattle.registration_text.specs.Reader.{Stage, going, unless, fixedIn, restIn, verdictG, verdictD, verdictO, sourceIn, keyIn, withCounts, withPoint, readG, readD, readO}
+use Rattle.registration_text.specs.Reader.{Stage, going, ifAccepted, fixedIn, restIn, verdictG, verdictD, verdictO, sourceIn, keyIn, withCounts, withPoint, readG, readD, readO}
 use Rattle.registration_text.proofs.Named.{pairs-at, pairs-fit}
 use Rattle.registration_text.proofs.ConsumerLine.{Said, fixedSaid, pairsSaid, lineSaid, saidBy, begins-consumer-read, begins-consumer-written}
 use Rattle.registration_text.proofs.States.{withOne, put-consumer, one-same}
 
 -- a reading that goes on has refused nothing
-going-on : (v : Verdict) (stage : Stage) (r : Registration) (rest : List ℕ) → unless v stage ≡ going r rest → (v ≡ Accepted) × (stage ≡ going r rest)
+going-on : (v : Verdict) (stage : Stage) (r : Registration) (rest : List ℕ) → ifAccepted v stage ≡ going r rest → (v ≡ Accepted) × (stage ≡ going r rest)
 going-on Accepted stage r rest e = (refl, e)
 going-on (Refused refusal) stage r rest e = let z : _≡_ {A = ℕ} 0 1 = cc in absurd (omega arith)
 
@@ -118,7 +118,7 @@ accepted-D numbers e =
 
 module _ (producer left : ℕ) (r : Registration) where
   clause-D : (text : List ℕ) → let numbers = lineIn letterD widthsD (firstLine text) in
-      readD producer (suc left) r text ≡ unless (verdictD numbers) (readD (suc producer) left (withPoint r producer (nth 0 numbers) (nth 1 numbers)) (afterLine text))
+      readD producer (suc left) r text ≡ ifAccepted (verdictD numbers) (readD (suc producer) left (withPoint r producer (nth 0 numbers) (nth 1 numbers)) (afterLine text))
   unfolding readD
   clause-D text = refl
 
@@ -212,7 +212,7 @@ accepted-O producers fixed rest e =
 module _ (consumer left : ℕ) (r : Registration) where
   clause-O : (text : List ℕ) → let fixed = fixedIn (firstLine text) in let rest = restIn (nth 2 fixed) (firstLine text) in
       readO consumer (suc left) r text
-      ≡ unless (verdictO (r .producers) fixed rest) (readO (suc consumer) left (withOne r consumer (saidBy fixed rest)) (afterLine text))
+      ≡ ifAccepted (verdictO (r .producers) fixed rest) (readO (suc consumer) left (withOne r consumer (saidBy fixed rest)) (afterLine text))
   unfolding readO
   clause-O text =
       let fixed = fixedIn (firstLine text) in

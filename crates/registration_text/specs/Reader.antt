@@ -11,7 +11,7 @@ use Rattle.answers.specs.declared.Verdict.{Verdict}
 use Rattle.answers.specs.declared.Verdict.the-variants.{Accepted, Refused}
 use Rattle.answers.specs.Order.{refuse_if_else_}
 use Rattle.columns.specs.Fields.{numbersIn, nth, isNone}
-use Rattle.columns.specs.Line.{firstLine, afterLine}
+use Rattle.lines.specs.Line.{firstLine, afterLine}
 use Rattle.lines.specs.Lines.{lineIn}
 use Rattle.registration.specs.declared.Registration.{Registration}
 use Rattle.registration.specs.Code.{isCode}
@@ -146,9 +146,9 @@ pub data Stage : Type 0 where
   going : Registration → List ℕ → Stage
 
 -- a refused line stops the reading
-abbrev pub unless : Verdict → Stage → Stage
-unless Accepted stage = stage
-unless (Refused refusal) stage = stopped refusal
+abbrev pub ifAccepted : Verdict → Stage → Stage
+ifAccepted Accepted stage = stage
+ifAccepted (Refused refusal) stage = stopped refusal
 
 -- the next lines are read where the reading was not stopped
 abbrev pub thenRead : Stage → (Registration → List ℕ → Stage) → Stage
@@ -159,14 +159,14 @@ thenRead (going r text) next = next r text
 unfoldable pub readG : List ℕ → Stage
 readG text =
     let numbers = lineIn letterG widthsG (firstLine text) in
-    unless (verdictG numbers) (going (withCounts (nth 0 numbers) (nth 1 numbers) (nth 2 numbers)) (afterLine text))
+    ifAccepted (verdictG numbers) (going (withCounts (nth 0 numbers) (nth 1 numbers) (nth 2 numbers)) (afterLine text))
 
 -- the D lines of so many producers from one on
 unfoldable pub readD : ℕ → ℕ → Registration → List ℕ → Stage
 readD producer zero r text = going r text
 readD producer (suc left) r text =
     let numbers = lineIn letterD widthsD (firstLine text) in
-    unless (verdictD numbers) (readD (suc producer) left (withPoint r producer (nth 0 numbers) (nth 1 numbers)) (afterLine text))
+    ifAccepted (verdictD numbers) (readD (suc producer) left (withPoint r producer (nth 0 numbers) (nth 1 numbers)) (afterLine text))
 
 -- the O lines of so many consumers from one on
 unfoldable pub readO : ℕ → ℕ → Registration → List ℕ → Stage
@@ -174,7 +174,7 @@ readO consumer zero r text = going r text
 readO consumer (suc left) r text =
     let fixed = fixedIn (firstLine text) in
     let rest = restIn (nth 2 fixed) (firstLine text) in
-    unless (verdictO (r .producers) fixed rest) (readO (suc consumer) left (withConsumer r consumer fixed rest) (afterLine text))
+    ifAccepted (verdictO (r .producers) fixed rest) (readO (suc consumer) left (withConsumer r consumer fixed rest) (afterLine text))
 
 -- then 1 for extra text, 4, 7
 unfoldable pub verdictOfAll : Registration → List ℕ → Verdict

@@ -149,7 +149,7 @@ fn write_consumer(
     let count = point.count as usize;
     let after_fixed = write_fixed(out, start, point.code, point.status, point.count);
     let after_pairs = write_pairs(out, after_fixed, sources, keys, consumer, count);
-    columns::put_byte(out, after_pairs, columns::LINE_FEED)
+    columns::put_byte(out, after_pairs, lines::LINE_FEED)
 }
 
 // Writes the O lines of all consumers.

@@ -138,8 +138,8 @@ pub fn look(
     if !points::sign_suits(value, point, producers) {
         return refused(Refusal::ValueWrong);
     }
-    let magnitude = points::magnitude(value);
-    if journal::MAGNITUDE_MOST < magnitude {
+    let magnitude = values::magnitude(value);
+    if values::MAGNITUDE_MOST < magnitude {
         return refused(Refusal::ValueWrong);
     }
     if Service::STAMP_MOST < clock {

@@ -9,7 +9,7 @@ use Rattle.answers.specs.declared.Verdict.{Verdict}
 use Rattle.answers.specs.declared.Verdict.the-variants.{Accepted, Refused}
 use Rattle.answers.specs.Order.{refuse_if_else_}
 use Rattle.lists.specs.Place.{placed}
-use Rattle.columns.proofs.Laws.{line-part, rest-part}
+use Rattle.lines.proofs.Laws.{line-part, rest-part}
 use Rattle.service.specs.declared.Service.{Service}
 use Rattle.service.specs.Record.{withState}
 use Rattle.event_text.specs.declared.Opened.{Opened}

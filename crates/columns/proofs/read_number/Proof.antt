@@ -2,7 +2,7 @@
 use mathlib.Core.Path.{_≡_, sym, _∙_}
 use mathlib.Core.Bool.{Bool, true, false}
 use borrow.Author.Needs.{needs}
-use Rattle.columns.specs.Column.{numberIf, numberOf}
+use Rattle.columns.specs.Column.{numberIf, numberIn}
 use Rattle.columns.proofs.Judged.{narrow, number-refused, number-judged}
 use Rattle.columns.proofs.read_number.Statement.{statement}
 use Rattle.columns.proofs.read_number.Tie as tie
@@ -17,7 +17,7 @@ is-written-requires : tie.Need-is-written-requires
 is-written-requires c κs = search needs
 
 judged : (c : tie.After-is-written) (test : Bool) → c .is-written .result ≡ test
-    → numberIf test (c .before .value-of .result) ≡ numberOf (c .before .before .before .before .before .args .column .now)
+    → numberIf test (c .before .value-of .result) ≡ numberIn (c .before .before .before .before .before .args .column .now)
 judged c test t =
     let v = c .before in
     number-judged (v .before .before .before .before .args .column .now) (v .value-of .result)

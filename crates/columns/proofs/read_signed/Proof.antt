@@ -1,4 +1,4 @@
--- `columns::read_signed` meets its contract, by `Judged.antt` and `Sides.antt`. Assumes nothing.
+-- `columns::read_signed` meets its contract, by `Judged.antt` and the signs of `values`. Assumes nothing.
 use Prim.Native.Nat.{ℕ, _<_, _^_}
 use mathlib.Core.Path.{_≡_, refl, sym, ap, _∙_}
 use mathlib.Core.Bool.{Bool, true, false, not, _&&_}
@@ -9,9 +9,9 @@ use borrow.Author.Needs.{needs}
 use lib.Dec.{eqb}
 use lib.ListN.{length}
 use Rattle.columns.specs.declared.Signed.the-variants.{Is}
-use Rattle.columns.specs.Column.{columnOf, sameBytes, signedIf, signedOf}
+use Rattle.columns.specs.Column.{columnOf, sameBytes, signedIf, signedIn}
 use Rattle.columns.proofs.Judged.{narrow, value-fits, signed-refused, signed-judged}
-use Rattle.columns.proofs.Sides.{stays, negation-fits, negation-read}
+use Rattle.values.proofs.Signs.{stays, negation-fits, negation-read}
 use Rattle.columns.proofs.read_signed.Statement.{statement}
 use Rattle.columns.proofs.read_signed.Tie as tie
 
@@ -27,7 +27,7 @@ judged : (c : tie.After-has-minus) (minus test none : Bool)
     → (c .has-minus .result ≡ minus)
     → (sameBytes (columnOf minus (length (column-of (c .before))) (c .before .value-of .result)) (column-of (c .before)) ≡ test)
     → (eqb (c .before .value-of .result) 0 ≡ none)
-    → signedIf (test && not (minus && none)) minus (c .before .value-of .result) ≡ signedOf (column-of (c .before))
+    → signedIf (test && not (minus && none)) minus (c .before .value-of .result) ≡ signedIn (column-of (c .before))
 judged c minus test none m t z =
     let v = c .before in
     signed-judged (column-of v) (v .value-of .result)
@@ -38,7 +38,7 @@ judged c minus test none m t z =
     t z
 
 minus-written : (c : tie.Then3) (none : Bool) → eqb (c .before .before .before .before .value-of .result) 0 ≡ none
-    → signedIf (not none) true (c .before .before .before .before .value-of .result) ≡ signedOf (column-of (c .before .before .before .before))
+    → signedIf (not none) true (c .before .before .before .before .value-of .result) ≡ signedIn (column-of (c .before .before .before .before))
 minus-written c none z = judged (c .before .before .before) true true none (c .before .before .if2 .taken) (sym (c .before .is-written .ensures) ∙ c .if3 .taken) z
 
 begins-well-requires : tie.Need-begins-well-requires

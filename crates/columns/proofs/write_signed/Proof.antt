@@ -3,7 +3,7 @@ use mathlib.Core.Path.{_∙_}
 use borrow.Author.Needs.{needs}
 use mir.Syntax.{w64}
 use mir.ValLaws.{toZ-ofZ}
-use Rattle.columns.proofs.Sides.{negative-is}
+use Rattle.values.proofs.Signs.{negative-is}
 use Rattle.columns.proofs.write_signed.Statement.{statement}
 use Rattle.columns.proofs.write_signed.Tie as tie
 

@@ -2,7 +2,7 @@
 use mathlib.Core.Path.{sym, ap, _∙_}
 use borrow.Author.Needs.{needs}
 use Rattle.lines.specs.Lines.{twoOf}
-use Rattle.event_reader.specs.Events.{clearOf, clearIn}
+use Rattle.event_reader.specs.Events.{clearFrom, clearIn}
 use Rattle.event_reader.proofs.read_clear.Statement.{statement}
 use Rattle.event_reader.proofs.read_clear.Tie as tie
 
@@ -17,11 +17,11 @@ enum-told c = search needs
 
 returns : tie.Need-returns
 unfolding clearIn
-returns c = ap clearOf (ap twoOf (sym (c .before .date .given .1)) ∙ c .before .before .before .line-of-two .ensures)
+returns c = ap clearFrom (ap twoOf (sym (c .before .date .given .1)) ∙ c .before .before .before .line-of-two .ensures)
 
 returns-2 : tie.Need-returns-2
 unfolding clearIn
-returns-2 c = ap clearOf (ap twoOf (sym (c .enum-told .given .1)) ∙ c .before .before .line-of-two .ensures)
+returns-2 c = ap clearFrom (ap twoOf (sym (c .enum-told .given .1)) ∙ c .before .before .line-of-two .ensures)
 
 pub read-clear-spec : {M : Type 1} → statement M
 read-clear-spec =

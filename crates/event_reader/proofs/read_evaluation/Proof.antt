@@ -2,7 +2,7 @@
 use mathlib.Core.Path.{sym, ap, _∙_}
 use borrow.Author.Needs.{needs}
 use Rattle.lines.specs.Lines.{threeOf}
-use Rattle.event_reader.specs.Events.{evaluationOf, evaluationIn}
+use Rattle.event_reader.specs.Events.{evaluationFrom, evaluationIn}
 use Rattle.event_reader.proofs.read_evaluation.Statement.{statement}
 use Rattle.event_reader.proofs.read_evaluation.Tie as tie
 
@@ -17,11 +17,11 @@ enum-told c = search needs
 
 returns : tie.Need-returns
 unfolding evaluationIn
-returns c = ap evaluationOf (ap threeOf (sym (c .before .date .given .1)) ∙ c .before .before .before .line-of-three .ensures)
+returns c = ap evaluationFrom (ap threeOf (sym (c .before .date .given .1)) ∙ c .before .before .before .line-of-three .ensures)
 
 returns-2 : tie.Need-returns-2
 unfolding evaluationIn
-returns-2 c = ap evaluationOf (ap threeOf (sym (c .enum-told .given .1)) ∙ c .before .before .line-of-three .ensures)
+returns-2 c = ap evaluationFrom (ap threeOf (sym (c .enum-told .given .1)) ∙ c .before .before .line-of-three .ensures)
 
 pub read-evaluation-spec : {M : Type 1} → statement M
 read-evaluation-spec =

@@ -2,7 +2,7 @@
 use native.Mathlib.Omega.{arith}
 use borrow.Author.Needs.{needs}
 use mathlib.Core.Path.{_∙_}
-use Rattle.columns.proofs.Laws.{end-within}
+use Rattle.lines.proofs.Laws.{end-within}
 use Rattle.event_text.proofs.Walking.{line-ends, past-end, has-byte}
 use Rattle.event_text.proofs.line_end.Statement.{statement}
 use Rattle.event_text.proofs.line_end.Tie as tie

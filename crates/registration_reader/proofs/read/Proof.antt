@@ -8,7 +8,7 @@ use lib.ListN.{drop}
 use lib.Seq.{length-take-le}
 use Rattle.registration_text.specs.Reader.{going, answered, verdictOfAll, readG, readD}
 use Rattle.lines.proofs.Parts.{tail-part}
-use Rattle.columns.proofs.Laws.{end-within}
+use Rattle.lines.proofs.Laws.{end-within}
 use Rattle.registration_reader.proofs.Whole.{group-stops, group-goes, group-within, reached-stops, reached-goes, stops-first, stops-second, stops-third, goes-on}
 use Rattle.registration_reader.proofs.read.Statement.{statement}
 use Rattle.registration_reader.proofs.read.Tie as tie

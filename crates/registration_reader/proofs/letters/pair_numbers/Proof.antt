@@ -6,14 +6,14 @@ use native.Mathlib.Omega.{arith}
 use borrow.Author.Needs.{needs}
 use Rattle.columns.specs.Fields.{numbersIn}
 use Rattle.registration_text.specs.Lines.{widthsOfPairs}
-use Rattle.registration_reader.specs.Parts.{pairsOf}
+use Rattle.registration_reader.specs.Parts.{byPriority}
 use Rattle.registration_reader.proofs.PairParts.{left, left-begin, left-none, left-bad-source, left-bad-key, left-next}
 use Rattle.registration_reader.proofs.letters.pair_numbers.Statement.{statement}
 use Rattle.registration_reader.proofs.letters.pair_numbers.Tie as tie
 
 abbrev Inv-loop : tie.InvT-loop
 Inv-loop bytes count sources₀ keys₀ priority₀ at₀ sources keys priority at =
-    (priority ≤ count) × (at ≡ 10 * priority) × (pairsOf (numbersIn (widthsOfPairs count) bytes) ≡ left bytes count sources keys priority at)
+    (priority ≤ count) × (at ≡ 10 * priority) × (byPriority (numbersIn (widthsOfPairs count) bytes) ≡ left bytes count sources keys priority at)
 
 abbrev μ-loop : tie.MeasureT-loop
 μ-loop bytes count sources₀ keys₀ priority₀ at₀ sources keys priority at = count - priority

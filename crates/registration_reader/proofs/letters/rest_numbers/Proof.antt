@@ -1,7 +1,7 @@
 -- `registration_reader::letters::rest_numbers` meets its contract: each way out by `LineParts.antt`. Assumes nothing.
 use mathlib.Core.Path.{ap, _∙_}
 use borrow.Author.Needs.{needs}
-use Rattle.registration_reader.specs.Parts.{pairsOf}
+use Rattle.registration_reader.specs.Parts.{byPriority}
 use Rattle.registration_reader.proofs.LineParts.{wrong-rest, unended-rest, right-rest}
 use Rattle.registration_reader.proofs.letters.rest_numbers.Statement.{statement}
 use Rattle.registration_reader.proofs.letters.rest_numbers.Tie as tie
@@ -16,7 +16,7 @@ no-pairs-requires : tie.Need-no-pairs-requires
 no-pairs-requires c κs = search needs
 
 returns : tie.Need-returns
-returns c = c .no-pairs .ensures ∙ ap pairsOf (wrong-rest _ _ (c .before .if1 .taken))
+returns c = c .no-pairs .ensures ∙ ap byPriority (wrong-rest _ _ (c .before .if1 .taken))
 
 sub-if2 : tie.Need-sub-if2
 sub-if2 c = search needs
@@ -28,7 +28,7 @@ no-pairs-requires-2 : tie.Need-no-pairs-requires-2
 no-pairs-requires-2 c κs = search needs
 
 returns-2 : tie.Need-returns-2
-returns-2 c = c .no-pairs2 .ensures ∙ ap pairsOf (unended-rest _ _ (c .before .if2 .taken))
+returns-2 c = c .no-pairs2 .ensures ∙ ap byPriority (unended-rest _ _ (c .before .if2 .taken))
 
 sub-pair-numbers : tie.Need-sub-pair-numbers
 sub-pair-numbers c = search needs
@@ -45,7 +45,7 @@ pair-numbers-requires c κs = search needs
 returns-3 : tie.Need-returns-3
 returns-3 c =
     let at = c .before .before in
-    c .pair-numbers .ensures ∙ ap pairsOf (right-rest _ _ (at .before .before .if1 .left) (at .if2 .left))
+    c .pair-numbers .ensures ∙ ap byPriority (right-rest _ _ (at .before .before .if1 .left) (at .if2 .left))
 
 pub rest-numbers-spec : {M : Type 1} → statement M
 rest-numbers-spec =

@@ -2,7 +2,7 @@
 use Prim.Native.Nat.{_-_}
 use native.Mathlib.Omega.{arith}
 use borrow.Author.Needs.{needs}
-use Rattle.columns.proofs.Laws.{end-within}
+use Rattle.lines.proofs.Laws.{end-within}
 use Rattle.registration_reader.proofs.Stages.{Reading, consumerLines, reading-begins, reading-ends, reading-stops, reading-goes}
 use Rattle.registration_reader.proofs.reader.read_consumers.Statement.{statement}
 use Rattle.registration_reader.proofs.reader.read_consumers.Tie as tie

@@ -2,7 +2,7 @@
 use Prim.Native.Nat.{_-_}
 use native.Mathlib.Omega.{arith}
 use borrow.Author.Needs.{needs}
-use Rattle.columns.proofs.Laws.{end-within}
+use Rattle.lines.proofs.Laws.{end-within}
 use Rattle.registration_reader.proofs.Stages.{Reading, producerLines, reading-begins, reading-ends, reading-stops, reading-goes}
 use Rattle.registration_reader.proofs.reader.read_producers.Statement.{statement}
 use Rattle.registration_reader.proofs.reader.read_producers.Tie as tie

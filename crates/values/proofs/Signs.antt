@@ -10,7 +10,7 @@ use lib.Signed.{ltZ}
 use mir.Syntax.{w64}
 use mir.Val.{SFits, toZ, ofZ}
 use mir.ValLaws.{toZ-ofZ}
-use Rattle.columns.specs.Column.{isNegative}
+use Rattle.values.specs.Values.{isNegative}
 
 -- what a test against 0 says of the number itself
 pub record Below (z : ℤ) : Type 0 where

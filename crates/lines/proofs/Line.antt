@@ -9,11 +9,30 @@ use borrow.Author.Tests.{eq-eqb, ne-eqb}
 use lib.Dec.{eqb, eqb·suc-zero}
 use lib.ListN.{length, getD, take, drop, length-append, length-drop}
 use lib.Seq.{drop-cons, drop-drop, drop-length, take-append-seam, drop-append-seam}
 use Rattle.columns.specs.Column.{byteBefore, leadOf, columnOf}
 use Rattle.columns.specs.Fields.{columnsOf}
-use Rattle.columns.specs.Line.{firstLine, afterLine}
-use Rattle.columns.specs.Laws.{LinesJoin}
-use Rattle.columns.proofs.Clauses.{firstLine-cons}
+use Rattle.lines.specs.Line.{firstLine, afterLine}
+use Rattle.lines.specs.Laws.{LinesJoin}
+
+-- ---- the clauses of each definition, as equations
+
+pub firstLine-nil : firstLine [] ≡ []
+unfolding firstLine
+firstLine-nil = refl
+
+pub afterLine-nil : afterLine [] ≡ []
+unfolding afterLine
+afterLine-nil = refl
+
+pub firstLine-cons : (byte : ℕ) (bytes : List ℕ) → firstLine (byte ∷ bytes) ≡ byte ∷ cond (eqb byte 10) [] (firstLine bytes)
+unfolding firstLine
+firstLine-cons byte bytes = refl
+
+pub afterLine-cons : (byte : ℕ) (bytes : List ℕ) → afterLine (byte ∷ bytes) ≡ cond (eqb byte 10) bytes (afterLine bytes)
+unfolding afterLine
+afterLine-cons byte bytes = refl
+
+-- ---- a line from a place on
 
 module _ (text : List ℕ) (i : ℕ) where
   -- the line from i on ends after an LF, goes on after any other byte, and ends at the text's end

@@ -1,4 +1,4 @@
--- `points::magnitude` meets its contract, by proofs/Signs.antt. Assumes nothing.
+-- `values::magnitude` meets its contract, by proofs/Signs.antt. Assumes nothing.
 use mathlib.Core.Path.{sym, ap, subst, _∙_}
 use Prim.Native.Nat.{_+_, _<_, _^_}
 use native.Mathlib.Numerals.{add-one}
@@ -9,9 +9,9 @@ use lib.Signed.{nonNeg}
 use mir.Syntax.{w64}
 use mir.Val.{Fits}
 use mir.ValLaws.{toZ-ofZ}
-use Rattle.points.proofs.Signs.{Below, Above, below, above, small, small⁺, up-fits, turned-fits, read}
-use Rattle.points.proofs.magnitude.Statement.{statement}
-use Rattle.points.proofs.magnitude.Tie as tie
+use Rattle.values.proofs.Signs.{Below, Above, below, above, small, small⁺, up-fits, turned-fits, read}
+use Rattle.values.proofs.magnitude.Statement.{statement}
+use Rattle.values.proofs.magnitude.Tie as tie
 
 low : (c : tie.Then1) → Below (c .before .args .value)
 low c = below (c .before .args .value) (c .before .fits .value) (c .if1 .taken)

@@ -1,13 +1,13 @@
--- `columns::line_end` meets its contract: the line ends where the line from i on ends. Assumes nothing.
+-- `lines::line_end` meets its contract: the line ends where the line from i on ends. Assumes nothing.
 use Prim.Native.Nat.{_+_, _-_, _≤_}
 use mathlib.Core.Path.{_≡_, sym, _∙_}
 use native.Mathlib.Omega.{arith}
 use borrow.Author.Needs.{needs}
 use lib.ListN.{length, drop}
-use Rattle.columns.specs.Line.{firstLine}
-use Rattle.columns.proofs.Lines.{ends-here, goes-on, ends-last}
-use Rattle.columns.proofs.line_end.Statement.{statement}
-use Rattle.columns.proofs.line_end.Tie as tie
+use Rattle.lines.specs.Line.{firstLine}
+use Rattle.lines.proofs.Line.{ends-here, goes-on, ends-last}
+use Rattle.lines.proofs.line_end.Statement.{statement}
+use Rattle.lines.proofs.line_end.Tie as tie
 
 abbrev Inv-loop : tie.InvT-loop
 Inv-loop text at i₀ i = (i ≤ length text) × (at + length (firstLine (drop at text)) ≡ i + length (firstLine (drop i text)))
