@@ -11,7 +11,7 @@ use lib.Pow.{pow-pos, pow-lt, pow-add, shl-shr, shl-exact}
 use lib.Bits.{bitOr, or-shr, or-mod, or-zero-r, shifted-even}
 use borrow.Author.Tests.{ltb-true, ltb-false, eqb-true, eqb-false}
 use Rattle.lists.proofs.Cases.{by-test}
-use Rattle.journal_clear.specs.Marks.{Saw}
+use Rattle.journal_clear.specs.Seen.{Saw}
 
 or-one : (x : ℕ) → x < 2 → bitOr x 1 ≡ 1
 or-one zero h = refl

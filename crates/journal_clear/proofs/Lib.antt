@@ -1,6 +1,7 @@
 pub mod Bits
 pub mod Windows
 pub mod Turns
+pub mod FirstMet
 pub mod Passes
 pub mod Moves
 pub mod Superseded

@@ -1,7 +1,7 @@
 -- A pass from the last entry back: what holds once the entries from number i on are passed, and one entry more. Assumes nothing.
 use Prim.Native.Nat.{ℕ, _+_, _*_, _-_, _/_, _≤_, _<_}
 use mathlib.Core.Path.{_≡_, refl, sym, ap, subst, _∙_}
-use mathlib.Core.Bool.{Bool, true, false, cond, _&&_}
+use mathlib.Core.Bool.{Bool, true, false, cond}
 use mathlib.Core.List.{List}
 use native.Mathlib.Omega.{arith}
 use native.Mathlib.Nat.{zero-div}
@@ -12,9 +12,11 @@ use borrow.Author.Tests.{leb-true, ltb-true}
 use Rattle.lists.proofs.Cases.{by-test}
 use Rattle.lists.proofs.Below.{and-left, and-right}
 use Rattle.journal.specs.Entries.{Entry}
-use Rattle.journal.specs.Stored.{entryAt}
+use Rattle.journal.specs.Stored.{entryAt, entries}
 use Rattle.journal.proofs.Stored.{rest, rest-start, rest-step, rest-end}
-use Rattle.journal_clear.specs.Marks.{keyOf, window, noPlace, hasSeen, showsIn, superseded, unstamped, within, marked, nextIn, seenAgain, Turned, Passed}
+use Rattle.journal_clear.specs.Marks.{keyOf, window, noPlace, unstamped, nextIn, Passed}
+use Rattle.journal_clear.specs.Seen.{hasSeen, within, seenAgain, Turned}
+use Rattle.journal_clear.proofs.FirstMet.{showsIn, metAgain, afterPass, pass-marks}
 
 -- the journal at first and now, the table and the next key, once the entries from number i on are passed
 pub record Going (points lo P count : ℕ) (first j seen : List ℕ) (next i : ℕ) : Type 0 where
@@ -22,7 +24,7 @@ pub record Going (points lo P count : ℕ) (first j seen : List ℕ) (next i : �
   pub table-length : length seen ≡ 16384
   pub same-length : length j ≡ length first
   pub front : take (3 * i) j ≡ take (3 * i) first
-  pub marks : rest j count i ≡ marked points lo (lo + window) P (rest first count i)
+  pub marks : rest j count i ≡ afterPass points lo (lo + window) P (rest first count i)
   pub later : drop (3 * count) j ≡ drop (3 * count) first
   pub least : next ≡ nextIn points (lo + window) (rest first count i)
   pub table : (k : ℕ) → k < window → hasSeen seen k ≡ showsIn points (lo + k) P (rest first count i)
@@ -40,7 +42,7 @@ module _ (points lo P count : ℕ) (first j seen : List ℕ) (next i : ℕ) (h :
   p = keyOf points (e .place)
 
   abbrev goes : Bool
-  goes = within lo (lo + window) p && superseded points P e es
+  goes = metAgain points lo (lo + window) P e es
 
   still : (n : ℕ) → n < 3 * (i + 1) → getD j n 0 ≡ getD first n 0
   still n l = sym (getD-take (3 * (i + 1)) j n 0 l) ∙ ap (λ (t : List ℕ). getD t n 0) (g .front) ∙ getD-take (3 * (i + 1)) first n 0 l
@@ -48,7 +50,7 @@ module _ (points lo P count : ℕ) (first j seen : List ℕ) (next i : ℕ) (h :
   entry-still : entryAt j i ≡ e
   entry-still = rw (still (3 * i) (omega arith), still (3 * i + 1) (omega arith), still (3 * i + 2) (omega arith))
 
-  -- the table tells whether the entry is superseded
+  -- the table tells whether the entry is marked
   table-tells : seenAgain points lo P e seen ≡ goes
   table-tells =
       by-test (within lo (lo + window) p)
@@ -79,8 +81,8 @@ module _ (points lo P count : ℕ) (first j seen : List ℕ) (next i : ℕ) (h :
   marked-rest = rw (drop-set-lt (3 * (i + 1)) j (3 * i) 0 (omega arith))
 
   marks-on : (t : Bool) (after : List ℕ) → goes ≡ t → after ≡ cond t (set j (3 * i) 0) j
-      → rest after count i ≡ marked points lo (lo + window) P (rest first count i)
-  unfolding marked
+      → rest after count i ≡ afterPass points lo (lo + window) P (rest first count i)
+  unfolding afterPass
   marks-on true after t q = rw (q, rest-step (set j (3 * i) 0) count i h, marked-entry, marked-rest, rest-step first count i h, g .marks, t)
   marks-on false after t q = rw (q, rest-step j count i h, entry-still, rest-step first count i h, g .marks, t)
 
@@ -114,7 +116,7 @@ module _ (points lo P count : ℕ) (first j seen : List ℕ) (next i : ℕ) (h :
 
 -- before the last entry the table is empty and there is no next key
 pub start : (points lo P count : ℕ) (j seen : List ℕ) → length seen ≡ 16384 → ((k : ℕ) → k < 16384 → getD seen k 0 ≡ 0) → Going points lo P count j j seen noPlace (count - 0)
-unfolding marked nextIn showsIn
+unfolding afterPass nextIn showsIn
 start points lo P count j seen l z =
     let n : count - 0 ≡ count = omega arith in
     rw n
@@ -142,7 +144,8 @@ turn-back points lo P count first j seen next passed p fits g =
 pub finish : (points lo P count : ℕ) (first j seen : List ℕ) (next i : ℕ) → i ≡ 0 → Going points lo P count first j seen next i → Passed points lo P count first j next
 finish points lo P count first j seen next i z g =
     record {
-      marks = rw (z, rest-start j count, rest-start first count) at (g .marks);
+      marks = λ all r e.
+          (rw (z, rest-start j count, rest-start first count) at (g .marks)) ∙ pass-marks points lo (lo + window) P (omega arith) all (entries count first) r e;
       later = g .later;
       least = rw (z, rest-start first count) at (g .least);
     }

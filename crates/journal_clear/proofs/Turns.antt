@@ -9,7 +9,8 @@ use lib.ListN.{set}
 use borrow.Author.Tests.{eqb-true, eqb-false, lt-ltb, le-ltb, le-leb, lt-leb, ne-eqb}
 use Rattle.lists.proofs.Cases.{by-test}
 use Rattle.journal.specs.Entries.{Entry}
-use Rattle.journal_clear.specs.Marks.{keyOf, window, hasSeen, Saw, within, shows, Turned}
+use Rattle.journal_clear.specs.Marks.{keyOf, window}
+use Rattle.journal_clear.specs.Seen.{hasSeen, Saw, within, shows, Turned}
 use Rattle.journal_clear.proofs.Windows.{in-window, below-window, above-window}
 
 module _ (points lo P : ℕ) (e : Entry) (i : ℕ) (j seen : List ℕ) (next : ℕ) where

@@ -12,6 +12,7 @@ use Rattle.journal.specs.Damage.{RightFor}
 use Rattle.journal.proofs.Stored.{length-flat}
 use Rattle.journal_clear.specs.Cleared.{Cleared}
 use Rattle.journal_clear.specs.Marks.{isLeft, Marked, Compacted}
+use Rattle.journal_clear.proofs.Windows.{bounded}
 use Rattle.journal_clear.proofs.Superseded.{left-kept}
 
 -- a journal whose first entries are known, once the numbers behind them are 0
@@ -32,14 +33,14 @@ module _ (first j zeros : List ℕ) (es : List Entry) (count kept : ℕ)
       rw (z, l, front, drop-drop, d, later, n)
 
 -- the journal at first, after the marks and after the moving
-pub cleared : (points K P count kept : ℕ) (first marked moved zeros : List ℕ) → RightFor points (entries count first) → Marked points P count first marked
+pub cleared : (points K P count kept : ℕ) (first marked moved zeros : List ℕ) → RightFor points (entries count first) → Marked P count first marked
     → Compacted K count marked moved kept → 3 * count ≤ length moved
     → zeros ≡ replicate (length (take (3 * count - 3 * kept) (drop (3 * kept) moved))) 0
     → Cleared K P count first (take (3 * kept) moved ++ (zeros ++ drop (3 * count - 3 * kept) (drop (3 * kept) moved))) kept
 cleared points K P count kept first marked moved zeros r m c fits z =
     let es = keep K P (entries count first) in
     let front : take (3 * kept) moved ≡ flat es =
-    c .front ∙ ap (λ (l : List Entry). flat (those (isLeft K) l)) (m .marks) ∙ ap flat (left-kept points K P (r .few) (entries count first) r)
+    c .front ∙ ap (λ (l : List Entry). flat (those (isLeft K) l)) (m .marks) ∙ ap flat (left-kept K P (entries count first) (λ e m. bounded points (entries count first) r e m .0))
     in
     let later : drop (3 * count) moved ≡ drop (3 * count) first = c .later ∙ m .later in
     record {

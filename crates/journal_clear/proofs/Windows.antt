@@ -1,13 +1,14 @@
--- Windows of marks: they join, marks change neither what shows a key nor the next key, and after the last window all is marked. Assumes nothing.
+-- Keys and windows: a pass brings the marks on to the next key, and after the last one all is marked. Assumes nothing.
 use Prim.Native.Nat.{ℕ, _+_, _*_, _/_, _%_, _≤_, _<_}
 use mathlib.Core.Path.{_≡_, refl, sym, ap, _∙_}
-use mathlib.Core.Bool.{true, false, _&&_}
-use mathlib.Core.List.{List, [], _∷_}
+use mathlib.Core.Bool.{Bool, true, false, _&&_}
+use mathlib.Core.List.{List, [], _∷_, List·Memᴰ, List·Memᴰ·head, List·Memᴰ·tail, List·Memᴰ·cases-cons, List·Memᴰ·not-nil}
+use mathlib.Core.Logic.{⊎-elim}
 use native.Mathlib.Omega.{arith}
 use native.Mathlib.Nat.{mul-le-mul}
 use lib.Arith.{digits-div, digits-mod}
 use lib.Dec.{leb, ltb}
-use borrow.Author.Tests.{ltb-true, ltb-false, leb-true, leb-false, lt-ltb, le-ltb, le-leb, lt-leb}
+use borrow.Author.Tests.{ltb-true, ltb-false, leb-true, lt-ltb, le-ltb, le-leb, lt-leb}
 use Rattle.lists.proofs.Cases.{by-test}
 use Rattle.lists.proofs.Below.{and-left, and-right}
 use Rattle.calendar.specs.Quarters.{quarterExists}
@@ -15,12 +16,12 @@ use Rattle.journal.specs.Value.{storedRight}
 use Rattle.journal.specs.Entries.{Entry, pointIn, dayIn, quarterIn}
 use Rattle.journal.specs.Damage.{entryRight, entriesRight, RightFor}
 use Rattle.journal.proofs.Entries.{parts, all4}
-use Rattle.journal_clear.specs.Marks.{keyOf, window, noPlace, within, showsIn, superseded, marked, nextIn}
+use Rattle.journal_clear.specs.Marks.{keyOf, window, noPlace, superseded, supersededBelow, marked, nextIn}
+use Rattle.journal_clear.specs.Seen.{within}
 
 -- every entry has a stamp above 0 and a place of one of so many points
-unfoldable pub Bounded : (points : ℕ) → List Entry → Type 0
-Bounded points [] = Unit {0}
-Bounded points (e ∷ es) = (0 < e .stamp) × (e .place < points * 2775900) × Bounded points es
+abbrev pub Bounded : (points : ℕ) → List Entry → Type 0
+Bounded points es = (e : Entry) → List·Memᴰ e es → (0 < e .stamp) × (e .place < points * 2775900)
 
 -- a point below a number of points has its places below the number times 2775900
 low-place : (points K : ℕ) (e : Entry) → entryRight points K e ≡ true → e .place < points * 2775900
@@ -30,11 +31,10 @@ low-place points K e h =
     omega (arith, ltb-true (pointIn (e .place)) points (k .0))
 
 bounded-from : (points K last lo : ℕ) (es : List Entry) → entriesRight points K last lo es ≡ true → Bounded points es
-unfolding Bounded
-bounded-from points K last lo [] h = tt
-bounded-from points K last lo (e ∷ es) h =
+bounded-from points K last lo [] h x m = absurd (List·Memᴰ·not-nil m)
+bounded-from points K last lo (e ∷ es) h x m =
     let k = parts points K last lo e es h in
-    (omega (arith, k .0), low-place points K e (k .2), bounded-from points K last (e .stamp) es (k .3))
+    ⊎-elim (λ (q : x ≡ e). rw q (omega (arith, k .0), low-place points K e (k .2))) (λ n. bounded-from points K last (e .stamp) es (k .3) x n) (List·Memᴰ·cases-cons m)
 
 pub bounded : (points : ℕ) (es : List Entry) → RightFor points es → Bounded points es
 bounded points es r = bounded-from points (r .keptday) (r .last) 0 es (r .right)
@@ -67,139 +67,100 @@ below-window lo hi p l = rw (lt-leb lo p l)
 pub above-window : (lo hi p : ℕ) → hi ≤ p → within lo hi p ≡ false
 above-window lo hi p h = by-test (leb lo p) (λ t. rw (t, le-ltb p hi h)) (λ t. rw t)
 
--- ---- a mark hides nothing: a marked entry still shows its key
-shows-marked : (points lo hi P p : ℕ) (es : List Entry) → showsIn points p P (marked points lo hi P es) ≡ showsIn points p P es
-unfolding showsIn marked
-shows-marked points lo hi P p [] = refl
-shows-marked points lo hi P p (e ∷ es) =
-    by-test (within lo hi (keyOf points (e .place)) && superseded points P e es)
-    (λ g.
-    let s = and-right (within lo hi (keyOf points (e .place))) (superseded points P e es) g in
-    rw (g, and-left (leb (e .stamp) P) (showsIn points (keyOf points (e .place)) P es) s, le-leb 0 P (omega arith), shows-marked points lo hi P p es))
-    (λ g. rw (g, shows-marked points lo hi P p es))
-
--- nor does it move the next key
-next-marked : (points lo hi P b : ℕ) (es : List Entry) → nextIn points b (marked points lo hi P es) ≡ nextIn points b es
-unfolding nextIn marked
-next-marked points lo hi P b [] = refl
-next-marked points lo hi P b (e ∷ es) =
-    by-test (within lo hi (keyOf points (e .place)) && superseded points P e es)
-    (λ g. rw (g, next-marked points lo hi P b es))
-    (λ g. rw (g, next-marked points lo hi P b es))
-
--- two windows join
-marked-join : (points a b P : ℕ) → a ≤ b → (es : List Entry) → marked points a b P (marked points 0 a P es) ≡ marked points 0 b P es
+-- ---- two tests that agree on the entries mark the same, and one that each entry fails marks none
+marked-same : (f g : Entry → Bool) (es : List Entry) → ((e : Entry) → List·Memᴰ e es → f e ≡ g e) → marked f es ≡ marked g es
 unfolding marked
-marked-join points a b P l [] = refl
-marked-join points a b P l (e ∷ es) =
-    let p = keyOf points (e .place) in
-    by-test (ltb p a)
-    (λ t.
-    let h : p < a = ltb-true p a t in
-    let v = in-window 0 a p (omega arith) h in
-    let w = in-window 0 b p (omega arith) (omega arith) in
-    let z = below-window a b p h in
-    by-test (superseded points P e es) (λ g. rw (v, w, g, z, marked-join points a b P l es)) (λ g. rw (v, w, g, z, marked-join points a b P l es)))
-    (λ t.
-    let h : a ≤ p = ltb-false p a t in
-    let v = above-window 0 a p h in
-    by-test (ltb p b)
-    (λ s.
-    let k : p < b = ltb-true p b s in
-    let w = in-window 0 b p (omega arith) k in
-    let z = in-window a b p h k in
-    rw (v, w, z, shows-marked points 0 a P p es, marked-join points a b P l es))
-    (λ s.
-    let k : b ≤ p = ltb-false p b s in
-    let w = above-window 0 b p k in
-    let z = above-window a b p k in
-    rw (v, w, z, marked-join points a b P l es)))
+marked-same f g [] h = refl
+marked-same f g (e ∷ es) h = rw (h e (List·Memᴰ·head refl), marked-same f g es (λ x m. h x (List·Memᴰ·tail m)))
 
--- ---- the next key is the least beyond a window
-module _ (points b : ℕ) (e : Entry) (es : List Entry) where
-  next-less : nextIn points b (e ∷ es) ≤ nextIn points b es
-  unfolding nextIn
-  next-less =
-      by-test (leb b (keyOf points (e .place)) && ltb (keyOf points (e .place)) (nextIn points b es))
-      (λ t.
-      let h = ltb-true (keyOf points (e .place)) (nextIn points b es) (and-right (leb b (keyOf points (e .place))) (ltb (keyOf points (e .place)) (nextIn points b es)) t) in
-      rw t (omega arith))
-      (λ t. rw t (omega arith))
+marked-none : (f : Entry → Bool) → ((e : Entry) → f e ≡ false) → (es : List Entry) → marked f es ≡ es
+unfolding marked
+marked-none f h [] = refl
+marked-none f h (e ∷ es) = rw (h e, marked-none f h es)
 
-  next-least : b ≤ keyOf points (e .place) → nextIn points b (e ∷ es) ≤ keyOf points (e .place)
-  unfolding nextIn
-  next-least h =
-      by-test (ltb (keyOf points (e .place)) (nextIn points b es))
-      (λ s. rw (le-leb b (keyOf points (e .place)) h, s) (omega arith))
-      (λ s. let k = ltb-false (keyOf points (e .place)) (nextIn points b es) s in rw (le-leb b (keyOf points (e .place)) h, s) (omega arith))
+-- ---- the next key: marks do not move it, and it is the least beyond a window
+next-marked : (points b : ℕ) (f : Entry → Bool) (es : List Entry) → nextIn points b (marked f es) ≡ nextIn points b es
+unfolding nextIn marked
+next-marked points b f [] = refl
+next-marked points b f (e ∷ es) =
+    by-test (f e) (λ t. rw (t, next-marked points b f es)) (λ t. rw (t, next-marked points b f es))
 
-next-beyond : (points b c : ℕ) → c ≤ b → c ≤ noPlace → (es : List Entry) → c ≤ nextIn points b es
+next-less : (points b : ℕ) (e : Entry) (es : List Entry) → nextIn points b (e ∷ es) ≤ nextIn points b es
 unfolding nextIn
-next-beyond points b c l m [] = m
-next-beyond points b c l m (e ∷ es) =
-    by-test (leb b (keyOf points (e .place)) && ltb (keyOf points (e .place)) (nextIn points b es))
-    (λ t.
-    let h = leb-true b (keyOf points (e .place)) (and-left (leb b (keyOf points (e .place))) (ltb (keyOf points (e .place)) (nextIn points b es)) t) in
-    rw t (omega arith))
-    (λ t. rw t (next-beyond points b c l m es))
+next-less points b e es =
+    let p = keyOf points (e .place) in
+    let n = nextIn points b es in
+    by-test (leb b p && ltb p n) (λ t. let h = ltb-true p n (and-right (leb b p) (ltb p n) t) in rw t (omega arith)) (λ t. rw t (omega arith))
 
 next-most : (points b : ℕ) (es : List Entry) → nextIn points b es ≤ noPlace
 unfolding nextIn
 next-most points b [] = omega arith
 next-most points b (e ∷ es) = omega (arith, next-less points b e es, next-most points b es)
 
--- up to the next key there is nothing to mark
-marked-up : (points b c P : ℕ) → b ≤ c → (es : List Entry) → c ≤ nextIn points b es → marked points 0 b P es ≡ marked points 0 c P es
-unfolding marked
-marked-up points b c P l [] n = refl
-marked-up points b c P l (e ∷ es) n =
+next-first : (points b : ℕ) (e : Entry) (es : List Entry) → b ≤ keyOf points (e .place) → nextIn points b (e ∷ es) ≤ keyOf points (e .place)
+unfolding nextIn
+next-first points b e es h =
     let p = keyOf points (e .place) in
-    let r : marked points 0 b P es ≡ marked points 0 c P es = marked-up points b c P l es (omega (arith, next-less points b e es)) in
-    by-test (ltb p b)
-    (λ t.
-    let h : p < b = ltb-true p b t in
-    rw (in-window 0 b p (omega arith) h, in-window 0 c p (omega arith) (omega arith), r))
-    (λ t.
-    let h : b ≤ p = ltb-false p b t in
-    rw (above-window 0 b p h, above-window 0 c p (omega (arith, next-least points b e es h)), r))
+    let n = nextIn points b es in
+    by-test (ltb p n)
+    (λ s. rw (le-leb b p h, s) (omega arith))
+    (λ s. let k = ltb-false p n s in rw (le-leb b p h, s) (omega arith))
 
--- and where there is no next key, all is marked
-marked-all : (points b P : ℕ) → points ≤ 64 → (es : List Entry) → Bounded points es → nextIn points b es ≡ noPlace → marked points 0 b P es ≡ marked points 0 noPlace P es
-unfolding marked Bounded
-marked-all points b P few [] s n = refl
-marked-all points b P few (e ∷ es) s n =
+next-least : (points b : ℕ) (es : List Entry) (e : Entry) → List·Memᴰ e es → b ≤ keyOf points (e .place) → nextIn points b es ≤ keyOf points (e .place)
+next-least points b [] e m h = absurd (List·Memᴰ·not-nil m)
+next-least points b (x ∷ es) e m h =
+    ⊎-elim
+    (λ (q : e ≡ x). rw q (next-first points b x es (rw q at h)))
+    (λ n. omega (arith, next-less points b x es, next-least points b es e n h))
+    (List·Memᴰ·cases-cons m)
+
+next-beyond : (points b c : ℕ) → c ≤ b → c ≤ noPlace → (es : List Entry) → c ≤ nextIn points b es
+unfolding nextIn
+next-beyond points b c l m [] = m
+next-beyond points b c l m (e ∷ es) =
     let p = keyOf points (e .place) in
-    let less = next-less points b e es in
-    let k : nextIn points b es ≡ noPlace = omega (arith, next-most points b es) in
-    let r : marked points 0 b P es ≡ marked points 0 noPlace P es = marked-all points b P few es (s .2) k in
-    by-test (ltb p b)
-    (λ t. rw (in-window 0 b p (omega arith) (ltb-true p b t), in-window 0 noPlace p (omega arith) (low-key points (e .place) few (s .1)), r))
-    (λ t. absurd (omega (arith, next-least points b e es (ltb-false p b t), low-key points (e .place) few (s .1))))
+    let n = nextIn points b es in
+    by-test (leb b p && ltb p n)
+    (λ t. let h = leb-true b p (and-left (leb b p) (ltb p n) t) in rw t (omega arith))
+    (λ t. rw t (next-beyond points b c l m es))
 
--- ---- before the first window nothing is marked
-pub marked-none : (points P : ℕ) (es : List Entry) → marked points 0 0 P es ≡ es
-unfolding marked
-marked-none points P [] = refl
-marked-none points P (e ∷ es) = rw (above-window 0 0 (keyOf points (e .place)) (omega arith), marked-none points P es)
+-- ---- the marks below a key
+module _ (points P : ℕ) (all : List Entry) where
+  -- the entries, with the superseded ones whose keys are below `hi` marked
+  abbrev below : (hi : ℕ) → List Entry
+  below hi = marked (supersededBelow points hi P all) all
 
--- a pass brings the marks from `lo` to the next key
-pub pass-on : (points P lo r : ℕ) (es js ks : List Entry) → points ≤ 64 → Bounded points es → lo < noPlace → js ≡ marked points 0 lo P es
-    → ks ≡ marked points lo (lo + window) P js → r ≡ nextIn points (lo + window) js → (r ≤ noPlace) × (lo < r) × (ks ≡ marked points 0 r P es)
-pass-on points P lo r es js ks few s l ej ek er =
-    let hi = lo + window in
-    let n : r ≡ nextIn points hi es = rw (ej, next-marked points) at er in
-    let m : ks ≡ marked points 0 hi P es = rw (ej, marked-join points lo hi P (omega arith) es) at ek in
-    let t : nextIn points hi es ≤ noPlace = next-most points hi es in
-    by-test (ltb r noPlace)
-    (λ q.
-    let h : r < noPlace = ltb-true r noPlace q in
-    let k : hi ≤ nextIn points hi es =
-    by-test (leb hi noPlace)
-    (λ c. next-beyond points hi hi (omega arith) (leb-true hi noPlace c) es)
-    (λ c. let z = leb-false hi noPlace c in let y = next-beyond points hi noPlace (omega arith) (omega arith) es in omega arith)
-    in
-    (omega arith, omega arith, m ∙ marked-up points hi r P (omega arith) es (omega arith)))
-    (λ q.
-    let h : noPlace ≤ r = ltb-false r noPlace q in
-    let k : r ≡ noPlace = omega arith in
-    (omega arith, omega arith, rw k (m ∙ marked-all points hi P few es s (sym n ∙ k))))
+  -- before the first window nothing is marked
+  pub none-below : below 0 ≡ all
+  none-below = marked-none _ (λ e. rw (le-ltb (keyOf points (e .place)) 0 (omega arith))) all
+
+  module _ (few : points ≤ 64) (b : Bounded points all) where
+    low : (e : Entry) → List·Memᴰ e all → keyOf points (e .place) < noPlace
+    low e m = low-key points (e .place) few (b e m .1)
+
+    -- every key is below the greatest number
+    pub all-below : below noPlace ≡ marked (superseded P all) all
+    all-below = marked-same _ _ all (λ e m. rw (lt-ltb (keyOf points (e .place)) noPlace (low e m)))
+
+    -- no key lies between the end of a window and the next key
+    same-below : (hi : ℕ) (e : Entry) → List·Memᴰ e all → ltb (keyOf points (e .place)) hi ≡ ltb (keyOf points (e .place)) (nextIn points hi all)
+    same-below hi e m =
+        let p = keyOf points (e .place) in
+        let n = nextIn points hi all in
+        by-test (ltb p hi)
+        (λ t.
+        let h : p < hi = ltb-true p hi t in
+        let k : p + 1 ≤ n = next-beyond points hi (p + 1) (omega arith) (omega (arith, low e m)) all in
+        rw (t, lt-ltb p n (omega arith)))
+        (λ t. rw (t, le-ltb p n (next-least points hi all e m (ltb-false p hi t))))
+
+    up-to-next : (hi : ℕ) → below hi ≡ below (nextIn points hi all)
+    up-to-next hi = marked-same _ _ all (λ e m. rw (same-below hi e m))
+
+    -- a pass brings the marks from `lo` on to the next key
+    pub pass-on : (lo r : ℕ) (js ks : List Entry) → lo < noPlace → js ≡ below lo → ks ≡ below (lo + window) → r ≡ nextIn points (lo + window) js
+        → (r ≤ noPlace) × (lo < r) × (ks ≡ below r)
+    pass-on lo r js ks l ej ek er =
+        let hi = lo + window in
+        let n : r ≡ nextIn points hi all = rw (ej, next-marked) at er in
+        (omega (arith, next-most points hi all), omega (arith, next-beyond points hi (lo + 1) (omega arith) (omega arith) all), ek ∙ up-to-next hi ∙ sym (ap below n))

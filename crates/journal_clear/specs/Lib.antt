@@ -1,2 +1,3 @@
 pub mod Cleared
 pub mod Marks
+pub mod Seen

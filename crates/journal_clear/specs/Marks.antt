@@ -1,13 +1,14 @@
--- How the code clears: an entry that a later one supersedes is marked by the stamp 0, window by window of keys, and what is left moves to the front. Assumes nothing.
-use Prim.Native.Nat.{ℕ, _+_, _*_, _-_, _/_, _%_, _^_, _<_, _≤_}
+-- How the code clears: a superseded entry is marked by the stamp 0, window by window of keys, and what is left moves to the front. Assumes nothing.
+use Prim.Native.Nat.{ℕ, _+_, _*_, _/_, _%_, _≤_}
 use mathlib.Core.Path.{_≡_}
-use mathlib.Core.Bool.{Bool, true, false, cond, not, _&&_, _||_}
-use mathlib.Core.List.{List, [], _∷_}
-use lib.ListN.{getD, set, take, drop}
+use mathlib.Core.Bool.{Bool, cond, not, _&&_}
+use mathlib.Core.List.{List, [], _∷_, map}
+use lib.ListN.{take, drop}
 use lib.Dec.{leb, ltb, eqb}
-use Rattle.journal.specs.Readings.{those}
-use Rattle.journal.specs.Entries.{Entry, dayIn}
+use Rattle.journal.specs.Readings.{those, shown, hasStamp}
+use Rattle.journal.specs.Entries.{Entry, dayIn, readingsAt}
 use Rattle.journal.specs.Stored.{entries, flat}
+use Rattle.journal.specs.Damage.{RightFor}
 
 -- the key of a place in a group of so many points, by its quarter hour first and its point second: each point has 2775900 places
 unfoldable pub keyOf : (points place : ℕ) → ℕ
@@ -21,40 +22,21 @@ window = 1048576
 abbrev pub noPlace : ℕ
 noPlace = 18446744073709551615
 
--- whether key number k of a window was seen: bit k % 64 of word k / 64 of the table
-abbrev pub hasSeen : (seen : List ℕ) (k : ℕ) → Bool
-hasSeen seen k = eqb (getD seen (k / 64) 0 / 2 ^ (k % 64) % 2) 1
+-- whether an entry is superseded as of P among all entries: its stamp is at most P, and is not that of the reading shown at P for its place
+abbrev pub superseded : (P : ℕ) (all : List Entry) → Entry → Bool
+superseded P all e = leb (e .stamp) P && not (hasStamp (shown P (readingsAt all (e .place))) (e .stamp))
 
--- the table before and after key number k is seen
-pub record Saw (before : List ℕ) (k : ℕ) (after : List ℕ) : Type 0 where
-  pub now : hasSeen after k ≡ true
-  pub others : (i : ℕ) → (i ≡ k → ⊥) → hasSeen after i ≡ hasSeen before i
-
--- whether a key is in the window from `lo` to below `hi`
-abbrev pub within : (lo hi key : ℕ) → Bool
-within lo hi key = leb lo key && ltb key hi
-
--- whether an entry is for the place with the key, with a stamp up to P
-abbrev pub shows : (points key P : ℕ) → Entry → Bool
-shows points key P e = eqb (keyOf points (e .place)) key && leb (e .stamp) P
-
--- whether one of the entries is for the place with the key, with a stamp up to P
-unfoldable pub showsIn : (points key P : ℕ) → List Entry → Bool
-showsIn points key P [] = false
-showsIn points key P (e ∷ es) = shows points key P e || showsIn points key P es
-
--- whether an entry that stands before others is superseded as of P: its stamp is up to P, and so is that of another with its key
-abbrev pub superseded : (points P : ℕ) → Entry → List Entry → Bool
-superseded points P e es = leb (e .stamp) P && showsIn points (keyOf points (e .place)) P es
+-- whether an entry is superseded and has a key below `hi`
+abbrev pub supersededBelow : (points hi P : ℕ) (all : List Entry) → Entry → Bool
+supersededBelow points hi P all e = ltb (keyOf points (e .place)) hi && superseded P all e
 
 -- an entry without its stamp
 abbrev pub unstamped : Entry → Entry
 unstamped e = record { stamp = 0; place = e .place; stored = e .stored }
 
--- the entries, with the superseded ones of a window marked
-unfoldable pub marked : (points lo hi P : ℕ) → List Entry → List Entry
-marked points lo hi P [] = []
-marked points lo hi P (e ∷ es) = cond (within lo hi (keyOf points (e .place)) && superseded points P e es) (unstamped e) e ∷ marked points lo hi P es
+-- the entries, with those that pass a test marked
+unfoldable pub marked : (test : Entry → Bool) → List Entry → List Entry
+marked test es = map (λ e. cond (test e) (unstamped e) e) es
 
 -- the lesser of an entry's key and the next key, where the entry's key is not below `hi`
 abbrev pub lesser : (points hi : ℕ) → Entry → (next : ℕ) → ℕ
@@ -65,25 +47,16 @@ unfoldable pub nextIn : (points hi : ℕ) → List Entry → ℕ
 nextIn points hi [] = noPlace
 nextIn points hi (e ∷ es) = lesser points hi e (nextIn points hi es)
 
--- whether an entry of a pass is marked, by the table
-abbrev pub seenAgain : (points lo P : ℕ) → Entry → (seen : List ℕ) → Bool
-seenAgain points lo P e seen = within lo (lo + window) (keyOf points (e .place)) && (leb (e .stamp) P && hasSeen seen (keyOf points (e .place) - lo))
-
--- what a pass does at entry number i: the journal, the table and the next key, before and after
-pub record Turned (points lo P : ℕ) (e : Entry) (i : ℕ) (before seen : List ℕ) (next : ℕ) (after seen′ : List ℕ) (next′ : ℕ) : Type 0 where
-  pub journal : after ≡ cond (seenAgain points lo P e seen) (set before (3 * i) 0) before
-  pub least : next′ ≡ lesser points (lo + window) e next
-  pub table : (k : ℕ) → k < window → hasSeen seen′ k ≡ (shows points (lo + k) P e || hasSeen seen k)
-
--- what a pass does: the window's superseded entries are marked, later numbers stay, and the next key is found
+-- what a pass does: where right entries had the superseded ones with keys below `lo` marked, those of the window are marked too; later numbers stay, and the next key is found
 pub record Passed (points lo P count : ℕ) (before after : List ℕ) (next : ℕ) : Type 0 where
-  pub marks : entries count after ≡ marked points lo (lo + window) P (entries count before)
+  pub marks : (all : List Entry) → RightFor points all → entries count before ≡ marked (supersededBelow points lo P all) all
+      → entries count after ≡ marked (supersededBelow points (lo + window) P all) all
   pub later : drop (3 * count) after ≡ drop (3 * count) before
   pub least : next ≡ nextIn points (lo + window) (entries count before)
 
 -- what all passes do: every superseded entry is marked, later numbers stay
-pub record Marked (points P count : ℕ) (before after : List ℕ) : Type 0 where
-  pub marks : entries count after ≡ marked points 0 noPlace P (entries count before)
+pub record Marked (P count : ℕ) (before after : List ℕ) : Type 0 where
+  pub marks : entries count after ≡ marked (superseded P (entries count before)) (entries count before)
   pub later : drop (3 * count) after ≡ drop (3 * count) before
 
 -- whether an entry is left: it has a stamp and its day is not below K

@@ -1,7 +1,8 @@
-// The clear of a journal, in place. Window by window of keys and from the last entry back, each entry up to the stamp that a later one
-// supersedes loses its own stamp; then the entries that are left move to the front. Which keys were seen stands in a table of bits. A key
-// is a place by its quarter hour first and its point second, and a quarter hour has as many keys as the group has points: entries of some
-// months lie in a window or two, however many points there are, and the fewer there are the longer is the time that a window holds.
+// The clear of a journal, in place. Window by window of keys, each entry up to the stamp that is not the one shown for its place loses its own
+// stamp; then the entries that are left move to the front. A pass goes from the last entry back: since the newest is shown, the first entry met
+// of a place is the one shown, and those met after it are superseded. Which keys were seen stands in a table of bits. A key is a place by its
+// quarter hour first and its point second, and a quarter hour has as many keys as the group has points: entries of some months lie in a window
+// or two, however many points there are, and the fewer there are the longer is the time that a window holds.
 ghost use mathlib.Core.Path.{_≡_};
 ghost use mathlib.Core.Bool.{not, _&&_};
 ghost use Prim.Native.Nat.{_+_, _*_, _<_, _≤_};
@@ -11,7 +12,8 @@ ghost use Rattle.journal.specs.Entries.{dayIn};
 ghost use Rattle.journal.specs.Stored.{entries, entryAt};
 ghost use Rattle.journal.specs.Damage.{RightFor};
 ghost use Rattle.journal_clear.specs.Cleared.{Cleared};
-ghost use Rattle.journal_clear.specs.Marks.{hasSeen, Saw, Turned, Passed, Marked, Compacted};
+ghost use Rattle.journal_clear.specs.Marks.{Passed, Marked, Compacted};
+ghost use Rattle.journal_clear.specs.Seen.{hasSeen, Saw, Turned};
 
 // How many keys a window has, and how many words the table: a bit for each key.
 const WINDOW: u64 = 1048576;
@@ -76,7 +78,8 @@ fn turn(
     next
 }
 
-// Marks the superseded entries whose keys are in the window from `lo` on. Returns the least key beyond the window.
+// Marks the superseded entries whose keys are in the window from `lo` on: of a place, all up to the stamp but the first one met from the last
+// entry back. Returns the least key beyond the window.
 fn pass(journal: &mut [u64], count: usize, points: u64, stamp: u64, lo: u64) -> u64
     requires { ⌜ (3 * count ≤ length (now journal)) × (points ≤ 64) ⌝ }
     ensures { λ r. ⌜ Passed points lo stamp count (now (journal .entry)) (now (journal .exit)) r ⌝ }
@@ -95,7 +98,7 @@ fn pass(journal: &mut [u64], count: usize, points: u64, stamp: u64, lo: u64) -> 
 // Marks every superseded entry: a pass for the window from 0 on, then one for each window that has an entry's key.
 fn mark(journal: &mut [u64], count: usize, points: u64, stamp: u64)
     requires { ⌜ (3 * count ≤ length (now journal)) × RightFor points (entries count (now journal)) ⌝ }
-    ensures { λ _. ⌜ Marked points stamp count (now (journal .entry)) (now (journal .exit)) ⌝ }
+    ensures { λ _. ⌜ Marked stamp count (now (journal .entry)) (now (journal .exit)) ⌝ }
 {
     let mut lo = 0;
     while lo < NO_PLACE {
