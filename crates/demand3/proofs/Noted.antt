@@ -4,8 +4,8 @@ use mathlib.Core.Path.{_≡_}
 use mathlib.Core.List.{List, [], _∷_, _++_, map, append-nil}
 use Rattle.lists.proofs.Cases.{by-test}
 use Rattle.journal.specs.Order.{Reading}
-use Rattle.journal.specs.Readings.{those}
-use Rattle.journal.proofs.Those.{those-append, map-append}
+use Rattle.lists.specs.Those.{those}
+use Rattle.lists.proofs.Those.{those-append, map-append}
 use Rattle.journal.proofs.ShownLaws.{Under}
 use Rattle.demand3.specs.Book.{Page, Note, isFor, noted, withNote}
 

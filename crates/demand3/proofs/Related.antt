@@ -3,6 +3,7 @@ use Prim.Native.Nat.{ℕ, _≤_}
 use native.Mathlib.Omega.{arith}
 use mathlib.Core.Path.{_≡_, refl}
 use mathlib.Core.Bool.{false}
+use Rattle.calendar.specs.Dates.{lastDay}
 use Rattle.registration.specs.declared.Registration.{Registration}
 use Rattle.values.specs.declared.Measurement.{Measurement}
 use Rattle.registration.specs.Damage.{isDamaged}
@@ -16,7 +17,7 @@ use Rattle.service.proofs.Sound.{Sound}
 -- a quarter hour and a stamp that are not cleared
 pub record Open (G : Group) (day quarter T : ℕ) : Type 0 where
   pub kept : G .keptday ≤ day
-  pub day-most : day ≤ 27758
+  pub day-most : day ≤ lastDay
   pub from : 1 ≤ quarter
   pub to : quarter ≤ 100
   pub stamp : G .keptstamp ≤ T

@@ -6,6 +6,7 @@ use mathlib.Core.List.{List}
 use lib.Dec.{eqb}
 use lib.ListN.{length}
 use borrow.Author.Tests.{eqb-true, eq-eqb, ne-eqb}
+use Rattle.calendar.specs.Dates.{lastDay}
 use Rattle.lists.proofs.Cases.{by-test}
 use Rattle.lists.proofs.Below.{and-left, and-right}
 use Rattle.journal.specs.Entries.{placeOf}
@@ -15,7 +16,7 @@ use Rattle.points.proofs.Index.{index-same}
 
 -- two codes, of which the first is one of the group's, each with its day and quarter
 module _ (roll : List ℕ) (b c d q d′ q′ : ℕ) (hb : indexOf b roll < length roll)
-    (hd : d ≤ 27758) (hd′ : d′ ≤ 27758) (hq : 1 ≤ q) (hr : q ≤ 100) (hq′ : 1 ≤ q′) (hr′ : q′ ≤ 100) where
+    (hd : d ≤ lastDay) (hd′ : d′ ≤ lastDay) (hq : 1 ≤ q) (hr : q ≤ 100) (hq′ : 1 ≤ q′) (hr′ : q′ ≤ 100) where
   -- their places are the same exactly where code, day and quarter are
   pub same-place : eqb (placeOf (indexOf b roll) d q) (placeOf (indexOf c roll) d′ q′) ≡ eqb b c && eqb d d′ && eqb q q′
   same-place =

@@ -9,6 +9,7 @@ use lib.Dec.{eqb}
 use lib.IntN.{natAbs}
 use lib.ListN.{length, length-append}
 use borrow.Author.Tests.{ltb-true, ltb-false, eqb-false, lt-ltb, le-leb, not-false}
+use Rattle.values.specs.Values.{magnitudeMost}
 use Rattle.lists.proofs.Cases.{by-test}
 use Rattle.values.specs.declared.Measurement.{Measurement}
 use Rattle.calendar.proofs.Laws.{exists-day, exists-quarter}
@@ -71,7 +72,7 @@ module _ (last : ℕ) (G : Group) (clock : ℕ) (m : Measurement) (page : Page) 
         lt-ltb i (length (rollOf G)) (a .known),
         le-leb (G .keptday) (m .day) (a .not-cleared),
         a .exists,
-        le-leb (natAbs (m .value)) 99999999 (a .small),
+        le-leb (natAbs (m .value)) magnitudeMost (a .small),
       )
 
   -- the group with it is sound

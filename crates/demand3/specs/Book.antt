@@ -10,7 +10,8 @@ use Rattle.allocation.specs.Result.{Allocation}
 use Rattle.values.specs.declared.Measurement.{Measurement}
 use Rattle.journal.specs.Value.{valueOf}
 use Rattle.journal.specs.Order.{Reading}
-use Rattle.journal.specs.Readings.{those, strongest, sameAs, stampOf}
+use Rattle.lists.specs.Those.{those}
+use Rattle.journal.specs.Readings.{strongest, sameAs, stampOf}
 use Rattle.evaluation.specs.Evaluation.{evaluationOf}
 use Rattle.service.specs.Group.{Call, Submission, Clear, Evaluation}
 use Rattle.service.specs.Calls.{nextStamp}

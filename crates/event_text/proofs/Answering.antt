@@ -16,7 +16,7 @@ use Rattle.event_reader.specs.declared.Event.the-variants.{Submission}
 use Rattle.event_reader.specs.Events.{eventIn}
 use Rattle.event_text.specs.declared.Answered.{Answered}
 use Rattle.event_text.specs.Replies.{replyOf, replyTo}
-use Rattle.event_text.specs.Contracts.{roomVerdict, Replies, Answers}
+use Rattle.event_text.specs.Contracts.{answerMost, roomVerdict, Replies, Answers}
 use Rattle.event_text.proofs.Fitting.{answer-within}
 
 -- a line was answered, and the answer lies within the buffer
@@ -24,20 +24,20 @@ abbrev pub Done : Service → (journal line buffer : List ℕ) → Answered → 
 Done s j line buffer answered j′ buffer′ = Answers s j line buffer answered j′ buffer′ × (answered .bytes ≤ length buffer′)
 
 module _ (s : Service) (j line buffer : List ℕ) where
-  refused-whole : length buffer < 7332 → Answers s j line buffer (record { verdict = Refused TooShort; state = s .state; bytes = 0 }) j buffer
+  refused-whole : length buffer < answerMost → Answers s j line buffer (record { verdict = Refused TooShort; state = s .state; bytes = 0 }) j buffer
   unfolding roomVerdict refuse_if_else_ placed
   refused-whole h =
-      rw (lt-ltb (length buffer) 7332 h)
+      rw (lt-ltb (length buffer) answerMost h)
       (record { verdict = refl; service = refl; journal = refl; bytes = refl; out = refl })
 
-  pub no-room : length buffer < 7332 → Done s j line buffer (record { verdict = Refused TooShort; state = s .state; bytes = 0 }) j buffer
+  pub no-room : length buffer < answerMost → Done s j line buffer (record { verdict = Refused TooShort; state = s .state; bytes = 0 }) j buffer
   no-room h = (refused-whole h, omega arith)
 
-  module _ (h : 7332 ≤ length buffer) (answered : Answered) (j′ buffer′ : List ℕ) where
+  module _ (h : answerMost ≤ length buffer) (answered : Answered) (j′ buffer′ : List ℕ) where
     replied : (event : Event) → event ≡ eventIn line → Replies Accepted (replyOf s j event) s buffer answered j′ buffer′
         → Answers s j line buffer answered j′ buffer′
     unfolding roomVerdict refuse_if_else_ replyTo
-    replied event e p = rw (le-ltb (length buffer) 7332 h, ← e) p
+    replied event e p = rw (le-ltb (length buffer) answerMost h, ← e) p
 
     pub by-event : (event : Event) → event ≡ eventIn line → Replies Accepted (replyOf s j event) s buffer answered j′ buffer′
         → Done s j line buffer answered j′ buffer′

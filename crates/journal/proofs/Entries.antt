@@ -10,7 +10,7 @@ use Rattle.lists.proofs.Cases.{by-test}
 use Rattle.lists.proofs.Below.{and-left, and-right}
 use Rattle.calendar.specs.Quarters.{quarterExists}
 use Rattle.journal.specs.Value.{storedRight}
-use Rattle.journal.specs.Readings.{those}
+use Rattle.lists.specs.Those.{those}
 use Rattle.journal.specs.Entries.{Entry, pointIn, dayIn, quarterIn, readingsAt}
 use Rattle.journal.specs.Damage.{entryRight, entriesRight}
 use Rattle.journal.proofs.ShownLaws.{Rising}

@@ -6,10 +6,11 @@ use mathlib.Core.List.{List, [], _∷_, _++_}
 use lib.Dec.{leb, eqb}
 use lib.ListN.{length}
 use borrow.Author.Tests.{eqb-true, le-leb}
-use Rattle.journal.specs.Readings.{those, shown}
+use Rattle.lists.specs.Those.{those}
+use Rattle.journal.specs.Readings.{shown}
 use Rattle.journal.specs.Entries.{Entry, dayIn, readingOf, readingsAt, kept, keep}
 use Rattle.lists.proofs.Cases.{by-test}
-use Rattle.journal.proofs.Those.{those-append, map-append, length-those}
+use Rattle.lists.proofs.Those.{those-append, map-append, length-those}
 use Rattle.journal.proofs.ShownLaws.{Rising, stays, shown-stays}
 
 pub readings-append : (es fs : List Entry) (p : ℕ) → readingsAt (es ++ fs) p ≡ readingsAt es p ++ readingsAt fs p

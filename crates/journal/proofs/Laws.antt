@@ -13,7 +13,7 @@ use Rattle.journal.specs.Order.{Reading, weaker}
 use Rattle.journal.specs.Readings.{shown, hasStamp}
 use Rattle.journal.specs.Entries.{dayIn, readingsAt, kept, keep}
 use Rattle.journal.specs.Laws.{IsNewest, ShowsNewest, ShownIsNewest, PlaceTells, KeepShows, KeepsNoOlder, WrittenIsRead}
-use Rattle.journal.proofs.Those.{those-pass}
+use Rattle.lists.proofs.Those.{those-pass}
 use Rattle.journal.proofs.Literal.{Tells, shown-tells}
 use Rattle.journal.proofs.PlaceLaws.{pointIn-place, dayIn-place, quarterIn-place}
 use Rattle.journal.proofs.Entries.{right-rising}

@@ -1,4 +1,3 @@
-pub mod Those
 pub mod Order
 pub mod ShownLaws
 pub mod Literal

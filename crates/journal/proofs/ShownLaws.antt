@@ -8,9 +8,10 @@ use mathlib.Core.Option.{Option, none, some}
 use lib.Dec.{leb, ltb}
 use borrow.Author.Tests.{leb-true, leb-false, lt-ltb, le-ltb, le-leb, lt-leb, eq-eqb, ne-eqb}
 use Rattle.journal.specs.Order.{Reading, weaker}
-use Rattle.journal.specs.Readings.{those, prefer, join, strongest, asOf, shown, hasStamp}
+use Rattle.lists.specs.Those.{those}
+use Rattle.journal.specs.Readings.{prefer, join, strongest, asOf, shown, hasStamp}
 use Rattle.lists.proofs.Cases.{by-test, by-option}
-use Rattle.journal.proofs.Those.{those-append}
+use Rattle.lists.proofs.Those.{those-append}
 use Rattle.journal.proofs.Order.{weaker-total, weaker-trans}
 
 -- all stamps are at most hi; the stamps rise, above lo

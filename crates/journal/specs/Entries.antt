@@ -3,9 +3,11 @@ use Prim.Native.Nat.{ℕ, _+_, _*_, _-_, _/_, _%_}
 use mathlib.Core.Bool.{Bool, _&&_, _||_}
 use mathlib.Core.List.{List, map}
 use lib.Dec.{leb, ltb, eqb}
+use Rattle.calendar.specs.Dates.{dayCount}
 use Rattle.journal.specs.Value.{valueIn}
 use Rattle.journal.specs.Order.{Reading}
-use Rattle.journal.specs.Readings.{those, shown, hasStamp}
+use Rattle.lists.specs.Those.{those}
+use Rattle.journal.specs.Readings.{shown, hasStamp}
 
 -- one entry
 pub record Entry : Type 0 where
@@ -19,15 +21,15 @@ pointPlaces = 2775900
 
 -- the place of a point, day and quarter: (point times 27759 + day) times 100 + quarter − 1
 abbrev pub placeOf : (point day quarter : ℕ) → ℕ
-placeOf point day quarter = (point * 27759 + day) * 100 + (quarter - 1)
+placeOf point day quarter = (point * dayCount + day) * 100 + (quarter - 1)
 
 -- the point of a place
 abbrev pub pointIn : ℕ → ℕ
-pointIn place = place / 100 / 27759
+pointIn place = place / 100 / dayCount
 
 -- the day of a place
 abbrev pub dayIn : ℕ → ℕ
-dayIn place = place / 100 % 27759
+dayIn place = place / 100 % dayCount
 
 -- the quarter of a place, from 1
 abbrev pub quarterIn : ℕ → ℕ

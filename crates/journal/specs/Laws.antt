@@ -4,6 +4,7 @@ use mathlib.Core.Path.{_≡_}
 use mathlib.Core.List.{List, List·Memᴰ}
 use mathlib.Core.Option.{Option, none, some}
 use lib.ListN.{length}
+use Rattle.calendar.specs.Dates.{lastDay}
 use Rattle.journal.specs.Order.{Reading}
 use Rattle.journal.specs.Readings.{shown}
 use Rattle.journal.specs.Entries.{Entry, placeOf, pointIn, dayIn, quarterIn, readingsAt, keep}
@@ -28,7 +29,7 @@ ShownIsNewest = (T : ℕ) (rs : List Reading) → ShowsNewest T rs (shown T rs)
 -- a place tells its point, day and quarter
 abbrev pub PlaceTells : Type 0
 PlaceTells =
-    (point day quarter : ℕ) → day ≤ 27758 → 1 ≤ quarter → quarter ≤ 100
+    (point day quarter : ℕ) → day ≤ lastDay → 1 ≤ quarter → quarter ≤ 100
     → (pointIn (placeOf point day quarter) ≡ point) × (dayIn (placeOf point day quarter) ≡ day) × (quarterIn (placeOf point day quarter) ≡ quarter)
 
 -- whatever a clear with K and P drops, each place with a day of at least K goes on to show the same as of every T from P on

@@ -4,13 +4,9 @@ use mathlib.Core.Bool.{Bool, false, cond}
 use mathlib.Core.List.{List, [], _∷_}
 use mathlib.Core.Option.{Option, none, some}
 use lib.Dec.{leb, eqb}
+use Rattle.lists.specs.Those.{those}
 use Rattle.journal.specs.Value.{Value, sameValue}
 use Rattle.journal.specs.Order.{Reading, weaker}
-
--- the elements that pass a test, in order
-abbrev pub those : {A : Type 0} → (A → Bool) → List A → List A
-those test [] = []
-those test (x ∷ xs) = cond (test x) (x ∷ those test xs) (those test xs)
 
 -- of two readings the one that does not give way
 abbrev pub prefer : Reading → Reading → Reading

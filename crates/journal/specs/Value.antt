@@ -3,6 +3,7 @@ use Prim.Native.Nat.{ℕ}
 use mathlib.Core.Bool.{Bool}
 use lib.IntN.{natAbs}
 use lib.Dec.{leb, eqb}
+use Rattle.values.specs.Values.{magnitudeMost}
 use Rattle.values.specs.declared.Measurement.{Measurement}
 
 -- energy in hundredths of a kWh, withdrawn or supplied
@@ -27,4 +28,4 @@ valueIn stored = record { magnitude = stored }
 
 -- a magnitude lies between 0 and 99999999
 abbrev pub storedRight : ℕ → Bool
-storedRight stored = leb stored 99999999
+storedRight stored = leb stored magnitudeMost

@@ -13,7 +13,7 @@ use Rattle.lists.proofs.Cases.{by-test, by-option}
 use Rattle.lists.proofs.Below.{and-left, and-right}
 use Rattle.journal.specs.Order.{Reading, weaker}
 use Rattle.journal.specs.Readings.{join, shown, hasStamp}
-use Rattle.journal.specs.Entries.{Entry, readingOf, readingsAt}
+use Rattle.journal.specs.Entries.{pointPlaces, Entry, readingOf, readingsAt}
 use Rattle.journal.specs.Damage.{RightFor}
 use Rattle.journal.proofs.ShownLaws.{Rising, shown-append}
 use Rattle.journal.proofs.Kept.{readings-append}
@@ -63,13 +63,13 @@ join-exists r none = refl
 join-exists r (some s) = refl
 
 -- two places have one key where they are the same
-key-told : (points p q : ℕ) → p < points * 2775900 → q < points * 2775900 → eqb (keyOf points p) (keyOf points q) ≡ eqb p q
+key-told : (points p q : ℕ) → p < points * pointPlaces → q < points * pointPlaces → eqb (keyOf points p) (keyOf points q) ≡ eqb p q
 key-told points p q h k =
     by-test (eqb p q)
     (λ t. rw t (eq-eqb (keyOf points p) (keyOf points q) (ap (keyOf points) (eqb-true p q t))))
     (λ t. rw t (ne-eqb (keyOf points p) (keyOf points q) (λ e. eqb-false p q t (same-key points p q h k e))))
 
-shows-told : (points p P : ℕ) (es : List Entry) → p < points * 2775900 → Bounded points es → showsIn points (keyOf points p) P es ≡ exists (shown P (readingsAt es p))
+shows-told : (points p P : ℕ) (es : List Entry) → p < points * pointPlaces → Bounded points es → showsIn points (keyOf points p) P es ≡ exists (shown P (readingsAt es p))
 unfolding showsIn shown
 shows-told points p P [] h b = refl
 shows-told points p P (e ∷ es) h b =

@@ -7,7 +7,7 @@ use native.Mathlib.Omega.{arith}
 use lib.ListN.{length, take, drop}
 use Rattle.lists.specs.Place.{placed}
 use Rattle.lists.proofs.PlaceLaws.{take-placed, drop-placed}
-use Rattle.journal.specs.Readings.{those}
+use Rattle.lists.specs.Those.{those}
 use Rattle.journal.specs.Stored.{entries, entryAt, numbers, flat}
 use Rattle.journal.proofs.Stored.{rest, rest-start, rest-step, rest-end}
 use Rattle.journal_clear.specs.Marks.{isLeft, Compacted}

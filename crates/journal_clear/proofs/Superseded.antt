@@ -7,7 +7,8 @@ use mathlib.Core.List.{List, [], _∷_, List·Memᴰ, List·Memᴰ·head, List·
 use lib.Dec.{leb}
 use borrow.Author.Tests.{leb-true, leb-false, lt-ltb, le-ltb, ne-eqb}
 use Rattle.lists.proofs.Cases.{by-test}
-use Rattle.journal.specs.Readings.{those, shown, hasStamp}
+use Rattle.lists.specs.Those.{those}
+use Rattle.journal.specs.Readings.{shown, hasStamp}
 use Rattle.journal.specs.Entries.{Entry, dayIn, readingsAt, kept, keep}
 use Rattle.journal_clear.specs.Marks.{superseded, marked, isLeft}
 

@@ -5,7 +5,7 @@ use mathlib.Core.List.{List, _++_}
 use native.Mathlib.Omega.{arith}
 use lib.ListN.{length, take, drop, replicate, length-take, length-drop}
 use lib.Seq.{drop-drop, length-take-le}
-use Rattle.journal.specs.Readings.{those}
+use Rattle.lists.specs.Those.{those}
 use Rattle.journal.specs.Entries.{Entry, keep}
 use Rattle.journal.specs.Stored.{entries, flat, written}
 use Rattle.journal.specs.Damage.{RightFor}

@@ -13,7 +13,7 @@ use Rattle.lists.proofs.Cases.{by-test}
 use Rattle.lists.proofs.Below.{and-left, and-right}
 use Rattle.calendar.specs.Quarters.{quarterExists}
 use Rattle.journal.specs.Value.{storedRight}
-use Rattle.journal.specs.Entries.{Entry, pointIn, dayIn, quarterIn}
+use Rattle.journal.specs.Entries.{pointPlaces, Entry, pointIn, dayIn, quarterIn}
 use Rattle.journal.specs.Damage.{entryRight, entriesRight, RightFor}
 use Rattle.journal.proofs.Entries.{parts, all4}
 use Rattle.journal_clear.specs.Marks.{keyOf, window, noPlace, superseded, supersededBelow, marked, nextIn}
@@ -21,10 +21,10 @@ use Rattle.journal_clear.specs.Seen.{within}
 
 -- every entry has a stamp above 0 and a place of one of so many points
 abbrev pub Bounded : (points : ℕ) → List Entry → Type 0
-Bounded points es = (e : Entry) → List·Memᴰ e es → (0 < e .stamp) × (e .place < points * 2775900)
+Bounded points es = (e : Entry) → List·Memᴰ e es → (0 < e .stamp) × (e .place < points * pointPlaces)
 
 -- a point below a number of points has its places below the number times 2775900
-low-place : (points K : ℕ) (e : Entry) → entryRight points K e ≡ true → e .place < points * 2775900
+low-place : (points K : ℕ) (e : Entry) → entryRight points K e ≡ true → e .place < points * pointPlaces
 unfolding entryRight
 low-place points K e h =
     let k = all4 (ltb (pointIn (e .place)) points) (leb K (dayIn (e .place))) (quarterExists (dayIn (e .place)) (quarterIn (e .place))) (storedRight (e .stored)) h in
@@ -40,21 +40,21 @@ pub bounded : (points : ℕ) (es : List Entry) → RightFor points es → Bounde
 bounded points es r = bounded-from points (r .keptday) (r .last) 0 es (r .right)
 
 -- the first part of a place's key is small where there are at most 64 points
-pub low-product : (points p : ℕ) → points ≤ 64 → p % 2775900 * points ≤ 2775899 * 64
+pub low-product : (points p : ℕ) → points ≤ 64 → p % pointPlaces * points ≤ 2775899 * 64
 low-product points p few = mul-le-mul {n₂ = 2775899} (omega arith) few
 
 -- ---- the key of a place of one of at most 64 points is below the greatest number, and no other such place has it
-pub low-key : (points p : ℕ) → points ≤ 64 → p < points * 2775900 → keyOf points p < noPlace
+pub low-key : (points p : ℕ) → points ≤ 64 → p < points * pointPlaces → keyOf points p < noPlace
 unfolding keyOf
 low-key points p few h = omega (arith, low-product points p few)
 
-pub same-key : (points p q : ℕ) → p < points * 2775900 → q < points * 2775900 → keyOf points p ≡ keyOf points q → p ≡ q
+pub same-key : (points p q : ℕ) → p < points * pointPlaces → q < points * pointPlaces → keyOf points p ≡ keyOf points q → p ≡ q
 unfolding keyOf
 same-key points p q h k e =
-    let i : p / 2775900 < points = omega arith in
-    let j : q / 2775900 < points = omega arith in
-    let a : p % 2775900 ≡ q % 2775900 = sym (digits-div (p % 2775900) i) ∙ ap (λ (n : ℕ). n / points) e ∙ digits-div (q % 2775900) j in
-    let b : p / 2775900 ≡ q / 2775900 = sym (digits-mod (p % 2775900) i) ∙ ap (λ (n : ℕ). n % points) e ∙ digits-mod (q % 2775900) j in
+    let i : p / pointPlaces < points = omega arith in
+    let j : q / pointPlaces < points = omega arith in
+    let a : p % pointPlaces ≡ q % pointPlaces = sym (digits-div (p % pointPlaces) i) ∙ ap (λ (n : ℕ). n / points) e ∙ digits-div (q % pointPlaces) j in
+    let b : p / pointPlaces ≡ q / pointPlaces = sym (digits-mod (p % pointPlaces) i) ∙ ap (λ (n : ℕ). n % points) e ∙ digits-mod (q % pointPlaces) j in
     omega (arith, a, b)
 
 -- ---- a key and a window

@@ -5,14 +5,15 @@ use mathlib.Core.Bool.{Bool, cond, not, _&&_}
 use mathlib.Core.List.{List, [], _∷_, map}
 use lib.ListN.{take, drop}
 use lib.Dec.{leb, ltb, eqb}
-use Rattle.journal.specs.Readings.{those, shown, hasStamp}
-use Rattle.journal.specs.Entries.{Entry, dayIn, readingsAt}
+use Rattle.lists.specs.Those.{those}
+use Rattle.journal.specs.Readings.{shown, hasStamp}
+use Rattle.journal.specs.Entries.{pointPlaces, Entry, dayIn, readingsAt}
 use Rattle.journal.specs.Stored.{entries, flat}
 use Rattle.journal.specs.Damage.{RightFor}
 
 -- the key of a place in a group of so many points, by its quarter hour first and its point second: each point has 2775900 places
 unfoldable pub keyOf : (points place : ℕ) → ℕ
-keyOf points place = place % 2775900 * points + place / 2775900
+keyOf points place = place % pointPlaces * points + place / pointPlaces
 
 -- how many keys a window has
 abbrev pub window : ℕ

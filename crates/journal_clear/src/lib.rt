@@ -113,7 +113,7 @@ fn left(stamp: u64, place: u64, day: u64) -> bool
     if stamp == 0 {
         return false;
     }
-    day <= place / 100 % 27759
+    day <= place / 100 % calendar::DAYS
 }
 
 // Moves the entries that are left to the front, in order. Returns how many they are.

@@ -8,6 +8,8 @@ use mathlib.Core.List.{List}
 use lib.IntN.{natAbs}
 use lib.ListN.{length}
 use borrow.Author.Tests.{ltb-true, ltb-false, leb-true, eqb-false, not-false}
+use Rattle.calendar.specs.Dates.{lastDay}
+use Rattle.values.specs.Values.{magnitudeMost}
 use Rattle.answers.specs.declared.Verdict.the-variants.{Accepted}
 use Rattle.answers.proofs.Refusals.{passed}
 use Rattle.lists.proofs.Cases.{by-test}
@@ -25,7 +27,7 @@ module _ (last : ℕ) (G : Group) (clock : ℕ) (m : Measurement) where
     pub known : indexOf (m .code) (rollOf G) < length (rollOf G)
     pub exists : quarterExists (m .day) (m .quarter) ≡ true
     pub not-cleared : G .keptday ≤ m .day
-    pub small : natAbs (m .value) ≤ 99999999
+    pub small : natAbs (m .value) ≤ magnitudeMost
     pub clock-small : clock ≤ stampMost
     pub last-less : last ≢ stampMost
     pub room : repeats last G m ≡ false → 3 * (length (G .entries) + 1) ≤ G .room
@@ -60,7 +62,7 @@ module _ (last : ℕ) (G : Group) (clock : ℕ) (m : Measurement) where
 module _ (last : ℕ) (G : Group) (day stamp : ℕ) where
   -- a clear
   pub record Clearing : Type 0 where
-    pub day-most : day ≤ 27758
+    pub day-most : day ≤ lastDay
     pub not-cleared : G .keptday ≤ day
     pub from : G .keptstamp ≤ stamp
     pub to : stamp ≤ last

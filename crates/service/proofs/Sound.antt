@@ -5,6 +5,7 @@ use mathlib.Core.Bool.{Bool, true, false, not, _||_, true≢false}
 use lib.Dec.{ltb}
 use lib.ListN.{length}
 use borrow.Author.Tests.{ltb-false, le-ltb}
+use Rattle.calendar.specs.Dates.{lastDay}
 use Rattle.registration.specs.Damage.{isDamaged}
 use Rattle.journal.specs.Damage.{entriesRight}
 use Rattle.service.specs.Group.{Group, rollOf}
@@ -15,7 +16,7 @@ pub record Sound (last : ℕ) (G : Group) : Type 0 where
   pub registered : isDamaged (G .registration) ≡ false
   pub kept-stamp : G .keptstamp ≤ last
   pub last-stamp : last ≤ stampMost
-  pub kept-day : G .keptday ≤ 27758
+  pub kept-day : G .keptday ≤ lastDay
   pub fits : 3 * length (G .entries) ≤ G .room
   pub right : entriesRight (length (rollOf G)) (G .keptday) last 0 (G .entries) ≡ true
 
@@ -27,7 +28,7 @@ undamaged last G k =
       k .registered,
       le-ltb last (G .keptstamp) (k .kept-stamp),
       le-ltb stampMost last (k .last-stamp),
-      le-ltb 27758 (G .keptday) (k .kept-day),
+      le-ltb lastDay (G .keptday) (k .kept-day),
       le-ltb (G .room) (3 * length (G .entries)) (k .fits),
       k .right,
     )
@@ -47,13 +48,13 @@ chain false false false false false true p = (refl, refl, refl, refl, refl, refl
 pub undamaged-sound : (last : ℕ) (G : Group) → damaged last G ≡ false → Sound last G
 unfolding damaged
 undamaged-sound last G h =
-    let k = chain (isDamaged (G .registration)) (ltb last (G .keptstamp)) (ltb stampMost last) (ltb 27758 (G .keptday))
+    let k = chain (isDamaged (G .registration)) (ltb last (G .keptstamp)) (ltb stampMost last) (ltb lastDay (G .keptday))
     (ltb (G .room) (3 * length (G .entries))) (entriesRight (length (rollOf G)) (G .keptday) last 0 (G .entries)) h in
     record {
       registered = k .0;
       kept-stamp = ltb-false last (G .keptstamp) (k .1);
       last-stamp = ltb-false stampMost last (k .2);
-      kept-day = ltb-false 27758 (G .keptday) (k .3);
+      kept-day = ltb-false lastDay (G .keptday) (k .3);
       fits = ltb-false (G .room) (3 * length (G .entries)) (k .4);
       right = k .5;
     }

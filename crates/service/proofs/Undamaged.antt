@@ -6,6 +6,7 @@ use native.Mathlib.Omega.{arith}
 use mathlib.Core.List.{List}
 use lib.ListN.{length}
 use borrow.Author.Tests.{le-ltb}
+use Rattle.calendar.specs.Dates.{lastDay}
 use Rattle.lists.proofs.TableLaws.{length-table}
 use Rattle.registration.specs.declared.Registration.{Registration}
 use Rattle.registration.specs.Rules.{points, codeAt}
@@ -25,7 +26,7 @@ pub damaged-by : (last : ℕ) (G : Group) → (Sound last G → ⊥) → true �
 damaged-by last G n = by-test (damaged last G) (λ t. sym t) (λ t. absurd (n (undamaged-sound last G t)))
 
 -- past the other tests, what is left to tell is whether the entries are right
-pub damaged-entries : (last : ℕ) (G : Group) → isDamaged (G .registration) ≡ false → G .keptstamp ≤ last → last ≤ stampMost → G .keptday ≤ 27758
+pub damaged-entries : (last : ℕ) (G : Group) → isDamaged (G .registration) ≡ false → G .keptstamp ≤ last → last ≤ stampMost → G .keptday ≤ lastDay
     → 3 * length (G .entries) ≤ G .room → (right : Bool) → right ≡ entriesRight (points (G .registration)) (G .keptday) last 0 (G .entries)
     → not right ≡ damaged last G
 unfolding damaged
@@ -34,7 +35,7 @@ damaged-entries last G a b c d e right r =
       a,
       le-ltb last (G .keptstamp) b,
       le-ltb stampMost last c,
-      le-ltb 27758 (G .keptday) d,
+      le-ltb lastDay (G .keptday) d,
       le-ltb (G .room) (3 * length (G .entries)) e,
       length-table (codeAt (G .registration)) (points (G .registration)),
       ← r,

@@ -5,6 +5,7 @@ use mathlib.Core.Bool.{true, false, not, _&&_}
 use mathlib.Core.List.{List}
 use lib.IntN.{natAbs}
 use lib.ListN.{length}
+use Rattle.values.specs.Values.{magnitudeMost}
 use Rattle.answers.specs.declared.Verdict.the-variants.{Accepted, Refused}
 use Rattle.answers.specs.declared.Refusal.the-variants.{CodeNotInGroup, NoSuchDay, ValueWrong, DayCleared, StampOutside, ClockOutside, JournalFull, Damaged, TooShort}
 use Rattle.answers.proofs.Refusals.{refusals}
@@ -43,11 +44,11 @@ module _ (last : ℕ) (G : Group) (clock : ℕ) (m : Measurement) where
           submission-wrong-sign t = search refusals depth 8
 
           module _ (g : signSuits (G .registration .producers) (indexOf (m .code) (rollOf G)) (m .value) ≡ true) where
-            pub submission-too-great : 99999999 < natAbs (m .value) → Refused ValueWrong ≡ submissionVerdict last G clock m
+            pub submission-too-great : magnitudeMost < natAbs (m .value) → Refused ValueWrong ≡ submissionVerdict last G clock m
             unfolding submissionVerdict
             submission-too-great h = search refusals depth 10
 
-            module _ (a : natAbs (m .value) ≤ 99999999) where
+            module _ (a : natAbs (m .value) ≤ magnitudeMost) where
               pub submission-late : stampMost < clock → Refused ClockOutside ≡ submissionVerdict last G clock m
               unfolding submissionVerdict
               submission-late h = search refusals depth 12

@@ -5,11 +5,12 @@ use mathlib.Core.List.{List}
 use lib.IntN.{natAbs}
 use lib.Dec.{ltb, eqb}
 use lib.ListN.{length}
+use Rattle.values.specs.Values.{magnitudeMost}
 use Rattle.answers.specs.declared.Verdict.{Verdict}
 use Rattle.answers.specs.declared.Verdict.the-variants.{Accepted}
 use Rattle.answers.specs.declared.Refusal.the-variants.{CodeNotInGroup, NoSuchDay, ValueWrong, DayCleared, StampOutside, ClockOutside, JournalFull, Damaged, TooShort}
 use Rattle.answers.specs.Order.{refuse_if_else_}
-use Rattle.calendar.specs.Dates.{isDay}
+use Rattle.calendar.specs.Dates.{lastDay, isDay}
 use Rattle.calendar.specs.Quarters.{quarterExists}
 use Rattle.registration.specs.Damage.{isDamaged}
 use Rattle.allocation.specs.Result.{sizeOf}
@@ -28,7 +29,7 @@ stampMost = 999999999999
 -- holds, an entry that is not right
 unfoldable pub damaged : (last : ℕ) → Group → Bool
 damaged last G =
-    isDamaged (G .registration) || ltb last (G .keptstamp) || ltb stampMost last || ltb 27758 (G .keptday)
+    isDamaged (G .registration) || ltb last (G .keptstamp) || ltb stampMost last || ltb lastDay (G .keptday)
     || ltb (G .room) (3 * length (G .entries)) || not (entriesRight (length (rollOf G)) (G .keptday) last 0 (G .entries))
 
 -- the submission repeats the reading shown at the last stamp
@@ -47,7 +48,7 @@ submissionVerdict last G clock m =
     refuse NoSuchDay if not (quarterExists (m .day) (m .quarter)) else
     refuse DayCleared if ltb (m .day) (G .keptday) else
     refuse ValueWrong if not (signSuits (G .registration .producers) (indexOf (m .code) (rollOf G)) (m .value)) else
-    refuse ValueWrong if ltb 99999999 (natAbs (m .value)) else
+    refuse ValueWrong if ltb magnitudeMost (natAbs (m .value)) else
     refuse ClockOutside if ltb stampMost clock else
     refuse ClockOutside if eqb last stampMost else
     refuse JournalFull if not (repeats last G m) && full G else

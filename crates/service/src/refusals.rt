@@ -1,6 +1,7 @@
 // The tests of each call, in the order of its refusals.
 ghost use mathlib.Core.Path.{_≡_};
 ghost use Prim.Native.Nat.{max, _+_, _≤_};
+ghost use Rattle.calendar.specs.Dates.{lastDay};
 ghost use Rattle.service.specs.Record.{groupIn};
 ghost use Rattle.service.specs.Refusals.{stampMost, damaged, earliest, clearVerdict, evaluationVerdict};
 ghost use Rattle.service.specs.Working.{refusedLook, newLook, settled, Looks};
@@ -186,7 +187,7 @@ pub fn clear_verdict(
 
 // The earliest day that can be evaluated: the four weeks before it are not cleared.
 fn earliest(kept: u64) -> u64
-    requires { ⌜ kept ≤ 27758 ⌝ }
+    requires { ⌜ kept ≤ lastDay ⌝ }
     ensures { λ r. ⌜ r ≡ earliest kept ⌝ }
 {
     if kept == 0 {

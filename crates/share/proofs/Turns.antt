@@ -16,7 +16,7 @@ use Rattle.event_text.specs.declared.Opened.{Opened}
 use Rattle.event_text.specs.declared.Answered.{Answered}
 use Rattle.event_text.specs.Replies.{replyTo}
 use Rattle.event_text.specs.Share.{linesOf, answersTo, openingVerdict, share}
-use Rattle.event_text.specs.Contracts.{openedIf, openedOf, lineEnd, roomVerdict, Answers}
+use Rattle.event_text.specs.Contracts.{answerMost, openedIf, openedOf, lineEnd, roomVerdict, Answers}
 use Rattle.event_text.proofs.Cutting.{lines-none}
 use Rattle.event_text.proofs.Walking.{line-ends}
 use Rattle.event_text.proofs.Laws.{answered-by-lines, shared-from-events}
@@ -50,12 +50,12 @@ front bytes buffer = take-append-seam bytes (drop (0 + length bytes) buffer)
 
 -- a turn hands the front of the buffer on, and goes on with record and journal as the answer left them
 pub one-more : (input : List ℕ) (s : Service) (j : List ℕ) (at : ℕ) → Written input s j at → at < length input → (end : ℕ) → end ≡ lineEnd input at
-    → (buffer : List ℕ) → 7332 ≤ length buffer → (answered : Answered) (j′ buffer′ : List ℕ)
+    → (buffer : List ℕ) → answerMost ≤ length buffer → (answered : Answered) (j′ buffer′ : List ℕ)
     → Answers s j (take (end - at) (drop at input)) buffer answered j′ buffer′ → Written input (withState s (answered .state)) j′ end
 unfolding roomVerdict refuse_if_else_
 one-more input s j at w h end e buffer long answered j′ buffer′ p =
     let line = take (end - at) (drop at input) in
-    let q = rw (le-ltb (length buffer) 7332 long) at p in
+    let q = rw (le-ltb (length buffer) answerMost long) at p in
     let handed : take (answered .bytes) buffer′ ≡ replyTo s j line .bytes = rw (q .bytes, q .out) (front (replyTo s j line .bytes) buffer) in
     record {
       bytes = w .bytes ++ take (answered .bytes) buffer′;

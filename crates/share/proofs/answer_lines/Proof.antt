@@ -6,13 +6,14 @@ use native.Mathlib.Omega.{arith}
 use borrow.Author.Needs.{needs}
 use lib.ListN.{length, length-replicate}
 use lib.Seq.{length-take-le}
+use Rattle.event_text.specs.Contracts.{answerMost}
 use Rattle.share.specs.Written.{Written}
 use Rattle.share.proofs.Turns.{nothing-written, one-more}
 use Rattle.share.proofs.answer_lines.Statement.{statement}
 use Rattle.share.proofs.answer_lines.Tie as tie
 
 abbrev Inv-loop : tie.InvT-loop
-Inv-loop input journal₀ out₀ service₀ at₀ journal out service at = (length journal ≡ 3000) × (length out ≡ 7332) × Written input service journal at
+Inv-loop input journal₀ out₀ service₀ at₀ journal out service at = (length journal ≡ 3000) × (length out ≡ answerMost) × Written input service journal at
 
 abbrev μ-loop : tie.MeasureT-loop
 μ-loop input journal₀ out₀ service₀ at₀ journal out service at = length input - at
@@ -20,7 +21,7 @@ abbrev μ-loop : tie.MeasureT-loop
 loop-holds : tie.Need-loop-holds Inv-loop μ-loop
 loop-holds c =
     let start = c .before .before in
-    (length-replicate {A = ℕ} 3000 0, length-replicate {A = ℕ} 7332 0, nothing-written _ _ (start .pre .0) (start .pre .1))
+    (length-replicate {A = ℕ} 3000 0, length-replicate {A = ℕ} answerMost 0, nothing-written _ _ (start .pre .0) (start .pre .1))
 
 line-end-requires : tie.Need-line-end-requires Inv-loop μ-loop
 line-end-requires c κs = search needs

@@ -7,6 +7,7 @@ use mir.Syntax.{w64}
 use mir.Val.{SFits}
 use borrow.Author.Tests.{not-true, not-false}
 use lib.ListN.{length}
+use Rattle.values.specs.Values.{magnitudeMost}
 use Rattle.calendar.specs.Quarters.{quarterExists}
 use Rattle.calendar.proofs.Laws.{exists-day, exists-quarter}
 use Rattle.journal.specs.Entries.{placeOf}
@@ -118,7 +119,7 @@ measured : (c : tie.Else6) → c .before .magnitude .result ≡ natAbs (begin-6 
 measured c = magnitude-told _ (value-fits (to-5 c .before .before)) (c .before .magnitude .ensures)
 
 -- and it is right
-small : (c : tie.Else6) → natAbs (begin-6 c .args .measurement .value) ≤ 99999999
+small : (c : tie.Else6) → natAbs (begin-6 c .args .measurement .value) ≤ magnitudeMost
 small c = omega (arith, measured c, c .if6 .left)
 
 -- past all of them the group is sound, and its entries fit

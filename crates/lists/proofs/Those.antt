@@ -6,8 +6,8 @@ use mathlib.Core.Logic.{⊎-elim}
 use mathlib.Core.List.{List, [], _∷_, _++_, map, List·Memᴰ, List·Memᴰ·cases-cons, List·Memᴰ·not-nil}
 use native.Mathlib.Omega.{arith}
 use lib.ListN.{length}
+use Rattle.lists.specs.Those.{those}
 use Rattle.lists.proofs.Cases.{by-test}
-use Rattle.journal.specs.Readings.{those}
 
 module _ {A : Type 0} where
   pub those-append : (f : A → Bool) (xs ys : List A) → those f (xs ++ ys) ≡ those f xs ++ those f ys
