@@ -145,7 +145,7 @@ pub data Stage : Type 0 where
   stopped : Refusal → Stage
   going : Registration → List ℕ → Stage
 
--- a refused line stops the reading
+-- the reading goes on to the next stage if a line is accepted; a refused line stops it
 abbrev pub ifAccepted : Verdict → Stage → Stage
 ifAccepted Accepted stage = stage
 ifAccepted (Refused refusal) stage = stopped refusal

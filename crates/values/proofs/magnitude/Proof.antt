@@ -36,7 +36,7 @@ cast-result c =
 add-result-2 : tie.Need-add-result-2
 add-result-2 c =
     let b = bound c in
-    subst (λ (y : ℤ). Fits w64 (natAbs y + 1)) (sym (read _ _ (low c .is) (c .before .fits .value))) (record { fits = omega arith })
+    rw (read (c .before .args .value) (low c .n) (low c .is) (c .before .fits .value)) (record { fits = omega arith })
 
 cast-result-2 : tie.Need-cast-result-2
 cast-result-2 c =
