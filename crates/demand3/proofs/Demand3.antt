@@ -16,16 +16,10 @@ use Rattle.service.specs.Record.{freshService}
 use Rattle.demand3.specs.Book.{Book, newBook, bookAfter, bookResult}
 use Rattle.demand3.specs.Lists.{Made}
 use Rattle.demand3.specs.Demand3.{RecordAndJournal, look, next, seenOf, Gives, RightByBook, SameResult, Demand3Holds}
-use Rattle.demand3.proofs.Results.{Lengths, book-lengths, same-of}
 use Rattle.demand3.proofs.Later.{later-after, later-result}
 use Rattle.demand3.proofs.OneCall.{reached}
 use Rattle.demand3.proofs.Joint.{groupAt, afterOf, Joint, joint-fresh, seen-at, right-at, joint-at, undamaged-at}
 use Rattle.demand3.proofs.Lists
-
--- an evaluation gives a result with one number for each pair, each consumer and each producer of the registration
-record GivesWhole (r : Registration) (result : Allocation) (seen : Seen) : Type 0 where
-  lengths : Lengths r result
-  gives : Gives result seen
 
 -- the evaluations of one day, quarter and T
 module _ (r : Registration) (day quarter T : ℕ) where
@@ -41,10 +35,10 @@ module _ (r : Registration) (day quarter T : ℕ) where
     registration : book .page .registration ≡ r
 
   -- what is right of one of them is that it gives the book's result
-  gives-right : (book : Book) → Reached book → (call : Call) (a : Seen) → Asks call → RightByBook book call a → GivesWhole r (bookResult book day quarter T) a
+  gives-right : (book : Book) → Reached book → (call : Call) (a : Seen) → Asks call → RightByBook book call a → Gives r (bookResult book day quarter T) a
   gives-right book l call a k right =
       let g : RightByBook book (Evaluation day quarter T (k .lent)) a = rw (k .is) at right in
-      record { lengths = subst (λ (x : Registration). Lengths x (bookResult book day quarter T)) (l .registration) (book-lengths book day quarter T); gives = g }
+      subst (λ (x : Registration). Gives x (bookResult book day quarter T) a) (l .registration) g
 
   -- where one of them is accepted, the book has reached T
   asked : (both : RecordAndJournal) (book : Book) → Joint r both book → (call : Call) → Asks call → refused (look both call) ≡ false → Reached book
@@ -65,14 +59,14 @@ module _ (r : Registration) (day quarter T : ℕ) where
   same both book joint call l =
       later-result book _ (later-after book call (refused (look both call))) day quarter T (l .exists) (l .stamp)
 
--- any two accepted evaluations of one day, quarter and T give one and the same result, of the registration's size
+-- any two accepted evaluations of one day, quarter and T give one and the same result
 module _ (r : Registration) (h : isDamaged r ≡ false) (journal : List ℕ) (calls : List Call) (i k day quarter T : ℕ) (lent lent′ : List ℕ) (a a′ : Seen)
     (m : Made calls (seenOf r journal calls) i (Evaluation day quarter T lent) a) (e : refused a ≡ false)
     (m′ : Made calls (seenOf r journal calls) k (Evaluation day quarter T lent′) a′) (e′ : refused a′ ≡ false) where
-  one-result : (result : Allocation) × GivesWhole r result a × GivesWhole r result a′
+  one-result : (result : Allocation) × Gives r result a × Gives r result a′
   one-result =
       Lists.pairs look next refused bookAfter RightByBook (Joint r) (right-at r) (joint-at r)
-      (Asks r day quarter T) (λ b. bookResult b day quarter T) (GivesWhole r) (Reached r day quarter T)
+      (Asks r day quarter T) (λ b. bookResult b day quarter T) (Gives r) (Reached r day quarter T)
       (gives-right r day quarter T) (asked r day quarter T) (stays r day quarter T) (same r day quarter T)
       calls (record { service = freshService r; journal = journal }) (newBook r) (joint-fresh r journal h)
       i k _ _ a a′ m (record { lent = lent; is = refl }) e m′ (record { lent = lent′; is = refl }) e′
@@ -82,7 +76,7 @@ module _ (r : Registration) (h : isDamaged r ≡ false) (journal : List ℕ) (ca
   same-result =
       let g = one-result .1 in
       let g′ = one-result .2 in
-      same-of r (one-result .0) a a′ (g .lengths) (g .gives) (g′ .gives)
+      record { parts = λ part. g .parts part ∙ sym (g′ .parts part); rounds = g .rounds ∙ sym (g′ .rounds) }
 
 -- the claim, from a fresh service and a new book on
 pub demand3 : Demand3Holds

@@ -4,7 +4,10 @@ use native.Mathlib.Omega.{arith}
 use mathlib.Core.Path.{_≡_, refl}
 use mathlib.Core.List.{List}
 use Rattle.calendar.proofs.Laws.{exists-day}
+use Rattle.registration.specs.Rules.{codeAt, statusAt}
+use Rattle.evaluation.specs.Substitutes.{magnitudeOf}
 use Rattle.evaluation.specs.Evaluation.{evaluationOf}
+use Rattle.evaluation.proofs.Laws.{part-lengths, parts-stand}
 use Rattle.evaluation.proofs.Alike.{evaluation-alike}
 use Rattle.service.specs.Group.{Group, readingsOf}
 use Rattle.service.specs.Calls.{evaluated}
@@ -13,7 +16,6 @@ use Rattle.demand3.specs.Demand3.{Gives}
 use Rattle.service.proofs.Admitted.{Evaluating}
 use Rattle.service.proofs.Laws.{four-weeks-kept}
 use Rattle.demand3.proofs.Related.{Related}
-use Rattle.demand3.proofs.Results.{placed-gives}
 
 module _ (last : ℕ) (G : Group) (day quarter T : ℕ) (lent : List ℕ) (book : Book) (rel : Related last G (book .page)) (a : Evaluating last G day quarter T lent) where
   -- journal and book show the same in the four weeks, so the results are the same
@@ -30,6 +32,14 @@ module _ (last : ℕ) (G : Group) (day quarter T : ℕ) (lent : List ℕ) (book 
       })))
 
   -- the list lent and the number returned give it
-  pub evaluation-right : Gives (bookResult book day quarter T) (evaluated last G day quarter T lent .seen)
-  unfolding evaluated
-  evaluation-right = rw (← same-result) (placed-gives (evaluationOf (G .registration) (readingsOf G) day quarter T) lent _ refl refl)
+  pub evaluation-right : Gives (book .page .registration) (bookResult book day quarter T) (evaluated last G day quarter T lent .seen)
+  unfolding evaluated evaluationOf
+  evaluation-right =
+      let r = G .registration in
+      let result = evaluationOf r (readingsOf G) day quarter T in
+      rw (← same-result, ← rel .registration)
+      (record {
+        parts = λ part. parts-stand r result
+            (part-lengths r (λ point. magnitudeOf (statusAt r point) (readingsOf G (codeAt r point)) day quarter T)) lent part;
+        rounds = refl;
+      })

@@ -4,7 +4,6 @@ pub mod Related
 pub mod Noted
 pub mod Submissions
 pub mod Clearings
-pub mod Results
 pub mod Evaluations
 pub mod NeverDamaged
 pub mod OneCall

@@ -1,15 +1,15 @@
 -- Demand 3: one claim about every list of calls on a fresh service. Its proof stands in proofs/Demand3.antt. Assumes nothing.
-use Prim.Native.Nat.{ℕ, _+_}
+use Prim.Native.Nat.{ℕ}
 use mathlib.Core.Path.{_≡_}
 use mathlib.Core.Bool.{false}
 use mathlib.Core.List.{List}
 use mathlib.Core.Logic.{_≢_}
-use lib.ListN.{length, take, drop}
 use Rattle.answers.specs.declared.Verdict.the-variants.{Refused}
 use Rattle.answers.specs.declared.Refusal.the-variants.{Damaged}
 use Rattle.registration.specs.declared.Registration.{Registration}
 use Rattle.registration.specs.Damage.{isDamaged}
-use Rattle.allocation.specs.Result.{Allocation, pairsIn}
+use Rattle.allocation.specs.Result.{Allocation}
+use Rattle.evaluation.specs.Layout.{Part, partIn, partOf}
 use Rattle.service.specs.declared.Service.{Service}
 use Rattle.service.specs.Group.{Call, Submission, Clear, Evaluation, Seen, refused}
 use Rattle.service.specs.Record.{freshService, callOn}
@@ -35,28 +35,20 @@ next both call =
 abbrev pub seenOf : Registration → (journal : List ℕ) → List Call → List Seen
 seenOf r journal calls = run look next (record { service = freshService r; journal = journal }) calls
 
--- so many numbers of a list, from a place on
-abbrev pub part : (at count : ℕ) → List ℕ → List ℕ
-part at count numbers = take count (drop at numbers)
-
--- an evaluation gives the pair shares, remaining withdrawals, remaining supplies and round count of a result
-pub record Gives (result : Allocation) (seen : Seen) : Type 0 where
-  pub shares : part 0 (length (result .shares)) (seen .result) ≡ result .shares
-  pub withdrawals : part (length (result .shares)) (length (result .withdrawals)) (seen .result) ≡ result .withdrawals
-  pub supplies : part (length (result .shares) + length (result .withdrawals)) (length (result .supplies)) (seen .result) ≡ result .supplies
+-- an evaluation gives a result of a registration: each part of it at its place, and the round count
+pub record Gives (r : Registration) (result : Allocation) (seen : Seen) : Type 0 where
+  pub parts : (part : Part) → partIn r part (seen .result) ≡ partOf result part
   pub rounds : seen .number ≡ result .rounds
 
 -- what is right of an accepted call, by the book as the earlier calls made it
 abbrev pub RightByBook : Book → Call → Seen → Type 0
 RightByBook book (Submission clock m) seen = seen .number ≡ bookStamp book clock m
 RightByBook book (Clear day stamp) seen = Unit {0}
-RightByBook book (Evaluation day quarter T lent) seen = Gives (bookResult book day quarter T) seen
+RightByBook book (Evaluation day quarter T lent) seen = Gives (book .page .registration) (bookResult book day quarter T) seen
 
--- two evaluations are equal in pair shares, remaining withdrawals, remaining supplies and round count
+-- two evaluations are equal in each part of the result, pair shares, remaining withdrawals and remaining supplies, and in the round count
 pub record SameResult (r : Registration) (a b : Seen) : Type 0 where
-  pub shares : part 0 (pairsIn r) (a .result) ≡ part 0 (pairsIn r) (b .result)
-  pub withdrawals : part (pairsIn r) (r .consumers) (a .result) ≡ part (pairsIn r) (r .consumers) (b .result)
-  pub supplies : part (pairsIn r + r .consumers) (r .producers) (a .result) ≡ part (pairsIn r + r .consumers) (r .producers) (b .result)
+  pub parts : (part : Part) → partIn r part (a .result) ≡ partIn r part (b .result)
   pub rounds : a .number ≡ b .number
 
 -- every accepted submission returns the book's stamp, every accepted evaluation gives the book's result; any two accepted evaluations of one day and

@@ -12,7 +12,7 @@ use Rattle.lists.proofs.Below.{and-left, and-right}
 use Rattle.journal.specs.Order.{Reading, weaker}
 use Rattle.journal.specs.Readings.{shown, hasStamp}
 use Rattle.journal.specs.Entries.{dayIn, readingsAt, kept, keep}
-use Rattle.journal.specs.Laws.{IsNewest, ShowsNewest, ShownIsNewest, PlaceTells, KeepShows, KeepsNoOlder, WrittenIsRead}
+use Rattle.journal.specs.Laws.{IsNewest, ShowsNewest, ShownIsNewest, PlaceTells, KeepShows, KeepsNoOlder, EntriesReadAgain}
 use Rattle.lists.proofs.Those.{those-pass}
 use Rattle.journal.proofs.Literal.{Tells, shown-tells}
 use Rattle.journal.proofs.PlaceLaws.{pointIn-place, dayIn-place, quarterIn-place}
@@ -56,5 +56,5 @@ keeps-no-older K P es e m =
           omega (arith, newest .greatest r a l))),
     )
 
-pub written-is-read : WrittenIsRead
-written-is-read es emptied j = entries-written es emptied j
+pub entries-read-again : EntriesReadAgain
+entries-read-again es emptied j = entries-written es emptied j

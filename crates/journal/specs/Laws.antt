@@ -45,5 +45,5 @@ KeepsNoOlder =
     → (K ≤ dayIn (e .place)) × ((r : Reading) → List·Memᴰ r (readingsAt es (e .place)) → r .stamp ≤ P → r .stamp ≤ e .stamp)
 
 -- what is written is read again
-abbrev pub WrittenIsRead : Type 0
-WrittenIsRead = (es : List Entry) (emptied : ℕ) (j : List ℕ) → entries (length es) (written es emptied j) ≡ es
+abbrev pub EntriesReadAgain : Type 0
+EntriesReadAgain = (es : List Entry) (emptied : ℕ) (j : List ℕ) → entries (length es) (written es emptied j) ≡ es
