@@ -1,6 +1,6 @@
 #!/usr/bin/env bash
 # Every path, definition, contract, law and must-fail edit that the documents name is there.
-# A path is a word in backquotes that begins with crates/, docs/, tests/ or .ci/. A word in backquotes behind a path and a colon,
+# A path is a word in backquotes that begins with crates/, docs/, tests/, tools/ or .ci/. A word in backquotes behind a path and a colon,
 # as in `crates/calendar/specs/Dates.antt`: `dayOf`, has to stand in that file. The example of README.md is the input and the output
 # of a run in tests/share.
 set -u
@@ -14,7 +14,7 @@ for page in README.md docs/*.md; do
             echo "$page names $path, which is not there"
             bad=1
         fi
-    done < <(grep -oE '`(crates|docs|tests|\.ci)/[^` ]*`' "$page" | tr -d '`' | sort -u)
+    done < <(grep -oE '`(crates|docs|tests|tools|\.ci)/[^` ]*`' "$page" | tr -d '`' | sort -u)
     while IFS=$'\t' read -r path names; do
         for name in $names; do
             checked=$((checked + 1))
