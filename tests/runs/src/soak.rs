@@ -146,9 +146,9 @@ impl Soak {
         let state = self.service.state;
         match self.random.below(20) {
             0 => state.last + 1,
-            1 => state.kept_stamp,
+            1 => state.numbers.kept_stamp,
             2..=6 => state.last,
-            _ => self.random.between(state.kept_stamp, state.last),
+            _ => self.random.between(state.numbers.kept_stamp, state.last),
         }
     }
 
@@ -170,7 +170,7 @@ impl Soak {
 
     /// A clear that leaves some seventy days.
     fn clear(&mut self) -> Event {
-        let kept = self.service.state.kept_day;
+        let kept = self.service.state.numbers.kept_day;
         let day = kept.max(self.today.saturating_sub(70 + self.random.below(10)));
         let day = if self.random.one_in(400) { day + 40 } else { day };
         Event::Clear {
@@ -240,7 +240,7 @@ impl Soak {
                 if number != expected {
                     return Err(format!("the library gives the stamp {number}, the book {expected}"));
                 }
-                let repeat = self.service.state.entries == self.service_before.state.entries;
+                let repeat = self.service.state.numbers.entries == self.service_before.state.numbers.entries;
                 *(if repeat {
                     &mut self.seen.repeats
                 } else {
