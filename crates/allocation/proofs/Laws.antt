@@ -1,8 +1,7 @@
--- What users of the published method rely on: nothing is lost, no share is too great, results have their size, means are nearest, and
--- equal magnitudes have equal results. Assumes nothing.
-use Prim.Native.Nat.{ℕ, zero, suc, _+_, _*_, _<_}
+-- What users of the published method rely on: nothing is lost, no share is too great, results have their size, and equal
+-- magnitudes have equal results. Assumes nothing.
+use Prim.Native.Nat.{ℕ, zero, suc, _+_, _<_}
 use mathlib.Core.Path.{_≡_, ap, _∙_}
-use native.Mathlib.Nat.{mul-div-le, lt-mul-div-succ}
 use native.Mathlib.Omega.{arith}
 use lib.ListN.{length, length-append}
 use Rattle.lists.proofs.TableLaws.{length-table, table-at, table-same, length-joined}
@@ -13,9 +12,8 @@ use Rattle.registration.proofs.Damage.{undamaged-parts}
 use Rattle.allocation.specs.Rounds.{Remaining, shareIn, roundOf, afterRounds, received}
 use Rattle.allocation.specs.Result.{startOf, pairsOf, pairsIn, roundsFor, allocationOf}
 use Rattle.allocation.specs.Laws.{UndamagedIsShareable, RoundWithinSupply, SupplyAddsUp, WithdrawalAddsUp, WithinWithdrawal}
-use Rattle.allocation.specs.Laws.{AllocationKeepsSupplies, AllocationKeepsWithdrawals, OneRoundWithinKey, ResultSize, MeanIsNearest}
+use Rattle.allocation.specs.Laws.{AllocationKeepsSupplies, AllocationKeepsWithdrawals, OneRoundWithinKey, ResultSize}
 use Rattle.lists.proofs.Sums.{sum-add}
-use Rattle.allocation.proofs.Nearest.{nearest-some}
 use Rattle.allocation.proofs.Consumers.{round-keeps-withdrawal}
 use Rattle.allocation.proofs.Producers.{of-producer-add, taken-within-supply, round-keeps-supply}
 
@@ -84,10 +82,6 @@ result-lengths r magnitude =
 
 pub result-size : ResultSize
 result-size r magnitude = rw (length-append, length-append) (omega (arith, result-lengths r magnitude))
-
-pub mean-is-nearest : MeanIsNearest
-mean-is-nearest sum count h =
-    rw (nearest-some sum count h) (omega (arith, mul-div-le (2 * sum + count) (2 * count), lt-mul-div-succ (2 * sum + count) {b = 2 * count} (omega arith)))
 
 -- the allocation rests on the magnitudes of the group's points alone
 pub allocation-same : (r : Registration) (f g : ℕ → ℕ) → ((point : ℕ) → point < points r → f point ≡ g point) → allocationOf r f ≡ allocationOf r g

@@ -1,4 +1,3 @@
-pub mod Nearest
 pub mod Turns
 pub mod Shareable
 pub mod Consumers

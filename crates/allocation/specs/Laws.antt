@@ -8,7 +8,6 @@ use Rattle.registration.specs.Rules.{sourceAt, keyAt}
 use Rattle.registration.specs.Damage.{isDamaged}
 use Rattle.allocation.specs.Rounds.{Remaining, withdrawalAt, supplyAt, ofConsumer, ofProducer, shareIn, afterRounds, received}
 use Rattle.allocation.specs.Result.{startOf, roundsFor, allocationOf, numbersOf, sizeOf}
-use Rattle.allocation.specs.Mean.{nearest}
 use Rattle.allocation.specs.Input.{Shareable}
 
 -- every undamaged registration can be shared by
@@ -61,9 +60,3 @@ OneRoundWithinKey =
 -- a result has one number for each pair, each consumer and each producer
 abbrev pub ResultSize : Type 0
 ResultSize = (r : Registration) (magnitude : ℕ → ℕ) → length (numbersOf (allocationOf r magnitude)) ≡ sizeOf r
-
--- the mean is the whole number nearest to the sum divided by the count, halves up: at most half a unit above it, and less than half a unit below it
-abbrev pub MeanIsNearest : Type 0
-MeanIsNearest =
-    (sum count : ℕ) → 1 ≤ count
-    → (2 * (count * nearest sum count) ≤ 2 * sum + count) × (2 * sum < 2 * (count * nearest sum count) + count)

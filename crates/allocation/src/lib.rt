@@ -1,5 +1,4 @@
-// The published method: how much of each producer's supply every consumer receives in a quarter hour, and the mean that stands in for a
-// missing reading.
+// The published method: how much of each producer's supply every consumer receives in a quarter hour.
 ghost use mathlib.Core.Path.{_≡_};
 ghost use Prim.Native.Nat.{_+_, _≤_, _<_};
 ghost use lib.ListN.{length, getD};
@@ -8,7 +7,6 @@ ghost use Rattle.registration.specs.Rules.{points, placeAt};
 ghost use Rattle.allocation.specs.Input.{Shareable, Magnitudes};
 ghost use Rattle.allocation.specs.Rounds.{roundsOf, offerOf, shareOf};
 ghost use Rattle.allocation.specs.Result.{pairsOf, pairsIn, sizeOf};
-ghost use Rattle.allocation.specs.Mean.{nearest};
 ghost use Rattle.allocation.specs.Working.{PairsWithin, RoundMade, Allocated};
 use registration::Registration;
 
@@ -16,21 +14,6 @@ use registration::Registration;
 pub const ROUNDS_MOST: usize = 5;
 
 pub const POINTS_ITERATED_MOST: usize = 50;
-
-// The sum of values divided by their count, rounded to the nearest whole number, halves up; 0 where there is none.
-pub fn mean(sum: u64, count: u64) -> u64
-    ensures { λ r. ⌜ r ≡ nearest sum count ⌝ }
-{
-    if count == 0 {
-        return 0;
-    }
-    let whole = sum / count;
-    let rest = sum % count;
-    if rest < count - rest {
-        return whole;
-    }
-    whole + 1
-}
 
 // How many rounds a group of so many points and consumers has.
 pub fn rounds(iteration: u8, points: usize, consumers: usize) -> usize

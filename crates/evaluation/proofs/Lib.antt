@@ -1,3 +1,5 @@
+pub mod Nearest
+pub mod Laws
 pub mod Places
 pub mod Taken
 pub mod Passed

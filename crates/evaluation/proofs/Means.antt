@@ -10,10 +10,10 @@ use lib.ListN.{length, drop}
 use borrow.Author.Tests.{leb-true, leb-false}
 use Rattle.lists.proofs.Cases.{by-test}
 use Rattle.journal.specs.Value.{Value}
-use Rattle.allocation.specs.Mean.{sumOf, nearest, meanOf}
-use Rattle.allocation.proofs.Laws.{mean-is-nearest}
+use Rattle.evaluation.specs.Mean.{sumOf, nearest, meanOf}
 use Rattle.evaluation.specs.Substitutes.{existing, fourWeeks}
 use Rattle.evaluation.specs.Working.{valueFor, numberAt, weekOf, weeksOf}
+use Rattle.evaluation.proofs.Laws.{mean-is-nearest}
 
 -- a number 0 has no value
 values-skip : (number : ℕ) (values : List (Option Value)) → number ≡ 0 → existing (valueFor number ∷ values) ≡ existing values

@@ -12,7 +12,7 @@ use borrow.Author.Tests.{eq-eqb, ne-eqb}
 use Rattle.lists.proofs.Cases.{by-test}
 use Rattle.lists.proofs.Below.{below}
 use Rattle.journal.specs.Value.{Value}
-use Rattle.allocation.specs.Mean.{meanOf}
+use Rattle.evaluation.specs.Mean.{meanOf}
 use Rattle.evaluation.specs.Substitutes.{existing, substitute, magnitudeFrom, fourWeeks}
 use Rattle.evaluation.specs.Working.{valueFor, numberAt, weekOf, weeksOf, magnitudeIn, Within, AllOf}
 use Rattle.evaluation.proofs.Means.{Small, small-for, mean-within}

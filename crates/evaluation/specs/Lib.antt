@@ -1,4 +1,6 @@
+pub mod Mean
 pub mod Earlier
 pub mod Substitutes
 pub mod Evaluation
 pub mod Working
+pub mod Laws

@@ -8,9 +8,9 @@ ghost use Rattle.calendar.specs.Quarters.{quarterExists};
 ghost use Rattle.journal.specs.Stored.{entries};
 ghost use Rattle.journal.specs.Damage.{Right};
 ghost use Rattle.allocation.specs.Input.{Shareable};
-ghost use Rattle.allocation.specs.Mean.{meanOf};
 ghost use Rattle.allocation.specs.Result.{sizeOf};
 ghost use Rattle.allocation.specs.Working.{Allocated};
+ghost use Rattle.evaluation.specs.Mean.{nearest, meanOf};
 ghost use Rattle.evaluation.specs.Substitutes.{existing};
 ghost use Rattle.evaluation.specs.Evaluation.{magnitudesIn};
 ghost use Rattle.evaluation.specs.Working.{weeksOf, magnitudeIn, Within, TakenIn, Gathered, AllOf};
@@ -72,6 +72,21 @@ fn gather(journal: &[u64], count: usize, day: u64, quarter: u64, until: u64) -> 
     table
 }
 
+// The sum of values divided by their count, rounded to the nearest whole number, halves up; 0 where there is none.
+pub fn mean(sum: u64, count: u64) -> u64
+    ensures { λ r. ⌜ r ≡ nearest sum count ⌝ }
+{
+    if count == 0 {
+        return 0;
+    }
+    let whole = sum / count;
+    let rest = sum % count;
+    if rest < count - rest {
+        return whole;
+    }
+    whole + 1
+}
+
 // The mean of the values that a point has in the earlier weeks.
 fn mean_of_weeks(table: &[u64; 320], point: usize) -> u64
     requires { ⌜ Within (now table) × (point < 64) ⌝ }
@@ -88,7 +103,7 @@ fn mean_of_weeks(table: &[u64; 320], point: usize) -> u64
         }
         week += 1;
     }
-    allocation::mean(sum, count)
+    mean(sum, count)
 }
 
 // The magnitude of a point: its reading, or the substitute by its status.
