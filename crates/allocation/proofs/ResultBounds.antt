@@ -17,7 +17,7 @@ use Rattle.lists.proofs.Sums.{sum-more, sum-term}
 use Rattle.lists.proofs.TableLaws.{joined-suc, length-joined, length-table, table-at}
 use Rattle.registration.specs.declared.Registration.{Registration}
 use Rattle.registration.specs.Rules.{countAt}
-use Rattle.allocation.specs.Input.{Shareable, Magnitudes}
+use Rattle.allocation.specs.Input.{magnitudeMost, Shareable, Magnitudes}
 use Rattle.allocation.specs.Rounds.{roundsOf, received}
 use Rattle.allocation.specs.Result.{startOf, roundsFor, allocationOf, numbersOf, pairsIn}
 use Rattle.allocation.proofs.Laws.{allocation-keeps-supplies, allocation-keeps-withdrawals, result-lengths}
@@ -62,14 +62,14 @@ module _ (first second third rest : List ℕ) where
 -- no number of a result is above the greatest magnitude, by where it stands in the result list
 pub record ResultWithin (r : Registration) (numbers : List ℕ) : Type 0 where
   pub shares : (consumer priority : ℕ) → consumer < r .consumers → priority < countAt r consumer
-      → getD numbers (sumBelow (countAt r) consumer + priority) 0 ≤ 99999999
-  pub withdrawals : (consumer : ℕ) → consumer < r .consumers → getD numbers (pairsIn r + consumer) 0 ≤ 99999999
-  pub supplies : (producer : ℕ) → producer < r .producers → getD numbers (pairsIn r + r .consumers + producer) 0 ≤ 99999999
+      → getD numbers (sumBelow (countAt r) consumer + priority) 0 ≤ magnitudeMost
+  pub withdrawals : (consumer : ℕ) → consumer < r .consumers → getD numbers (pairsIn r + consumer) 0 ≤ magnitudeMost
+  pub supplies : (producer : ℕ) → producer < r .producers → getD numbers (pairsIn r + r .consumers + producer) 0 ≤ magnitudeMost
 
 module _ (r : Registration) (magnitude : ℕ → ℕ) (s : Shareable r) (m : Magnitudes r magnitude) where
   -- the share of a pair, which is within its consumer's withdrawal
   share-within : (consumer priority : ℕ) → consumer < r .consumers → priority < countAt r consumer
-      → getD (allocationOf r magnitude .shares) (sumBelow (countAt r) consumer + priority) 0 ≤ 99999999
+      → getD (allocationOf r magnitude .shares) (sumBelow (countAt r) consumer + priority) 0 ≤ magnitudeMost
   unfolding allocationOf
   share-within consumer priority h l =
       let share = received r (startOf r magnitude) (roundsFor r) in

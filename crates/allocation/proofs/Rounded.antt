@@ -17,7 +17,7 @@ use Rattle.lists.proofs.TableLaws.{table-at, table-same, joined-same, length-ta
 use Rattle.registration.specs.declared.Registration.{Registration}
 use Rattle.registration.specs.Rules.{countAt, placeAt}
 use Rattle.lists.proofs.Below.{sum-none, sum-next}
-use Rattle.allocation.specs.Input.{Shareable, Magnitudes}
+use Rattle.allocation.specs.Input.{magnitudeMost, Shareable, Magnitudes}
 use Rattle.allocation.specs.Rounds.{Remaining, withdrawalAt, supplyAt, shareIn, roundOf, afterRounds, received}
 use Rattle.allocation.specs.Result.{pairsOf, roundsFor, allocationOf, numbersOf, sizeOf}
 use Rattle.allocation.specs.Working.{remainingIn, PairsWithin, RoundMade, Allocated}
@@ -54,14 +54,14 @@ rounded-none r most magnitudes shares points-size pairs-size none =
 
 module _ {r : Registration} (s : Shareable r) {most round : ℕ} {magnitudes left shares : List ℕ}
     (m : Magnitudes r (λ point. getD magnitudes point 0)) (t : Rounded r most magnitudes left shares round) where
-  supply-left : (p : ℕ) → p < r .producers → getD left p 0 ≤ 99999999
+  supply-left : (p : ℕ) → p < r .producers → getD left p 0 ≤ magnitudeMost
   supply-left p h =
       let here : getD left p 0 ≡ supplyAt (afterRounds r (remainingIn r magnitudes) round) p =
       sym (table-at (λ point. getD left point 0) (r .producers) p h) ∙ ap (λ (x : Remaining). supplyAt x p) (t .remains) in
       let first = table-at (λ point. getD magnitudes point 0) (r .producers) p h in
       omega (arith, here, first, supply-adds-up r (remainingIn r magnitudes) round s p h, m p (omega arith))
 
-  withdrawal-left : (c : ℕ) → c < r .consumers → getD left (r .producers + c) 0 ≤ 99999999
+  withdrawal-left : (c : ℕ) → c < r .consumers → getD left (r .producers + c) 0 ≤ magnitudeMost
   withdrawal-left c h =
       let here : getD left (r .producers + c) 0 ≡ withdrawalAt (afterRounds r (remainingIn r magnitudes) round) c =
       sym (table-at (λ c. getD left (r .producers + c) 0) (r .consumers) c h) ∙ ap (λ (x : Remaining). withdrawalAt x c) (t .remains) in
@@ -72,7 +72,7 @@ module _ {r : Registration} (s : Shareable r) {most round : ℕ} {magnitudes lef
   pub still-magnitudes : Magnitudes r (λ point. getD left point 0)
   still-magnitudes point h = go (leb (r .producers) point) refl
     where
-      go : (b : Bool) → leb (r .producers) point ≡ b → getD left point 0 ≤ 99999999
+      go : (b : Bool) → leb (r .producers) point ≡ b → getD left point 0 ≤ magnitudeMost
       go true e =
           let l = leb-true (r .producers) point e in
           rw (← add-sub-of-le l) (withdrawal-left (point - r .producers) (omega arith))

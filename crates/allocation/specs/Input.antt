@@ -5,6 +5,10 @@ use mathlib.Core.Bool.{true}
 use Rattle.registration.specs.declared.Registration.{Registration}
 use Rattle.registration.specs.Rules.{points, pointCountsRight, consumersRight, keysRight}
 
+-- the greatest magnitude
+abbrev pub magnitudeMost : ℕ
+magnitudeMost = 99999999
+
 -- the rules of a registration that an allocation needs: those on counts, on producers named and on keys, which every undamaged one keeps
 pub record Shareable (r : Registration) : Type 0 where
   pub point-counts : pointCountsRight (r .producers) (r .consumers) ≡ true
@@ -13,4 +17,4 @@ pub record Shareable (r : Registration) : Type 0 where
 
 -- the magnitude of each point is at most the greatest that a reading may have
 abbrev pub Magnitudes : Registration → (ℕ → ℕ) → Type 0
-Magnitudes r magnitude = (point : ℕ) → point < points r → magnitude point ≤ 99999999
+Magnitudes r magnitude = (point : ℕ) → point < points r → magnitude point ≤ magnitudeMost

@@ -6,6 +6,7 @@ use lib.ListN.{getD}
 use Rattle.lists.specs.Place.{placed}
 use Rattle.registration.specs.declared.Registration.{Registration}
 use Rattle.registration.specs.Rules.{countAt, placeAt}
+use Rattle.allocation.specs.Input.{magnitudeMost}
 use Rattle.allocation.specs.Rounds.{Remaining, shareIn, roundOf}
 use Rattle.allocation.specs.Result.{startOf, allocationOf, numbersOf}
 
@@ -15,7 +16,7 @@ remainingIn r left = startOf r (λ point. getD left point 0)
 
 -- what a pair has in an array of pairs is at most the greatest magnitude
 abbrev pub PairsWithin : Registration → List ℕ → Type 0
-PairsWithin r shares = (consumer priority : ℕ) → consumer < r .consumers → priority < countAt r consumer → placeAt shares consumer priority ≤ 99999999
+PairsWithin r shares = (consumer priority : ℕ) → consumer < r .consumers → priority < countAt r consumer → placeAt shares consumer priority ≤ magnitudeMost
 
 -- a round made in the working arrays: what was left and is left of each point, and the shares added for each pair
 pub record RoundMade (r : Registration) (before after shares-before shares-after : List ℕ) : Type 0 where

@@ -4,7 +4,7 @@ ghost use Prim.Native.Nat.{_+_, _≤_, _<_};
 ghost use lib.ListN.{length, getD};
 ghost use Rattle.lists.specs.Place.{Put};
 ghost use Rattle.registration.specs.Rules.{points, placeAt};
-ghost use Rattle.allocation.specs.Input.{Shareable, Magnitudes};
+ghost use Rattle.allocation.specs.Input.{magnitudeMost, Shareable, Magnitudes};
 ghost use Rattle.allocation.specs.Rounds.{roundsOf, offerOf, shareOf};
 ghost use Rattle.allocation.specs.Result.{pairsOf, pairsIn, sizeOf};
 ghost use Rattle.allocation.specs.Working.{PairsWithin, RoundMade, Allocated};
@@ -57,7 +57,7 @@ pub fn size(registration: Registration) -> usize
 
 // A pair's share: the smaller of the remaining withdrawal and what the key gives of the supply, rounded down.
 fn share_of(withdrawal: u64, key: u64, supply: u64) -> u64
-    requires { ⌜ (key ≤ 10000) × (supply ≤ 99999999) ⌝ }
+    requires { ⌜ (key ≤ 10000) × (supply ≤ magnitudeMost) ⌝ }
     ensures { λ r. ⌜ r ≡ shareOf withdrawal (offerOf key supply) ⌝ }
 {
     let offer = key * supply / Registration::KEY_MOST;

@@ -9,6 +9,7 @@ use lib.Dec.{leb, eqb}
 use lib.ListN.{length, getD}
 use Rattle.journal.specs.Value.{Value}
 use Rattle.journal.specs.Entries.{Entry, placeOf, readingsAt}
+use Rattle.allocation.specs.Input.{magnitudeMost}
 use Rattle.evaluation.specs.Earlier.{earlier}
 use Rattle.evaluation.specs.Substitutes.{magnitudeFrom, valueAt, fourWeeks}
 
@@ -35,7 +36,7 @@ magnitudeIn table point status = magnitudeFrom status (weekOf table point 0) (we
 
 -- no number is above the greatest magnitude plus one
 abbrev pub Within : List ℕ → Type 0
-Within table = (point week : ℕ) → point < 64 → week < 5 → numberAt table point week ≤ 100000000
+Within table = (point week : ℕ) → point < 64 → week < 5 → numberAt table point week ≤ magnitudeMost + 1
 
 -- whether a place is that of a point so many weeks before a slot; a slot is a day and a quarter as one number, day × 100 + quarter − 1
 abbrev pub isAt : (place slot point week : ℕ) → Bool

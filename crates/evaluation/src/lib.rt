@@ -7,7 +7,7 @@ ghost use lib.ListN.{length};
 ghost use Rattle.calendar.specs.Quarters.{quarterExists};
 ghost use Rattle.journal.specs.Stored.{entries};
 ghost use Rattle.journal.specs.Damage.{Right};
-ghost use Rattle.allocation.specs.Input.{Shareable};
+ghost use Rattle.allocation.specs.Input.{magnitudeMost, Shareable};
 ghost use Rattle.allocation.specs.Result.{sizeOf};
 ghost use Rattle.allocation.specs.Working.{Allocated};
 ghost use Rattle.evaluation.specs.Mean.{nearest, meanOf};
@@ -26,7 +26,7 @@ const EARLIER_PLACES: u64 = 4 * WEEK_PLACES;
 
 // One entry of the pass: where it is of the quarter hour or of an earlier week, and not later than `until`, the table gets its magnitude plus one.
 fn take_in(table: &mut [u64], stamp: u64, place: u64, stored: u64, slot: u64, until: u64)
-    requires { ⌜ (length (now table) ≡ 320) × (place < 64 * 2775900) × (stored ≤ 99999999) × (slot < 2775900) ⌝ }
+    requires { ⌜ (length (now table) ≡ 320) × (place < 64 * 2775900) × (stored ≤ magnitudeMost) × (slot < 2775900) ⌝ }
     ensures { λ _. ⌜ TakenIn stamp place stored slot until (now (table .entry)) (now (table .exit)) ⌝ }
 {
     if stamp > until {
