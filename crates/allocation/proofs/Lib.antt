@@ -4,5 +4,4 @@ pub mod Consumers
 pub mod Producers
 pub mod ArrayRound
 pub mod Laws
-pub mod ResultBounds
 pub mod Rounded

@@ -3,12 +3,12 @@ use Prim.Native.Nat.{ℕ, _+_, _≤_, _<_}
 use mathlib.Core.Path.{_≡_}
 use mathlib.Core.List.{List}
 use lib.ListN.{getD}
-use Rattle.lists.specs.Place.{placed}
 use Rattle.registration.specs.declared.Registration.{Registration}
 use Rattle.registration.specs.Rules.{countAt, placeAt}
+use Rattle.allocation.specs.declared.Allocated.{Allocated}
 use Rattle.allocation.specs.Input.{magnitudeMost}
 use Rattle.allocation.specs.Rounds.{Remaining, shareIn, roundOf}
-use Rattle.allocation.specs.Result.{startOf, allocationOf, numbersOf}
+use Rattle.allocation.specs.Result.{Allocation, startOf, pairsOf}
 
 -- what remains, as an array of points holds it
 abbrev pub remainingIn : Registration → List ℕ → Remaining
@@ -24,7 +24,12 @@ pub record RoundMade (r : Registration) (before after shares-before shares-after
   pub shares : (consumer priority : ℕ) → consumer < r .consumers → priority < countAt r consumer
       → placeAt shares-after consumer priority ≡ placeAt shares-before consumer priority + shareIn r (remainingIn r before) consumer priority
 
--- an allocation made: the round count returned, and the result list, of which the numbers after the result stay
-pub record Allocated (r : Registration) (magnitude : ℕ → ℕ) (before after : List ℕ) (returned : ℕ) : Type 0 where
-  pub rounds : returned ≡ allocationOf r magnitude .rounds
-  pub result : after ≡ placed 0 (numbersOf (allocationOf r magnitude)) before
+-- the allocation that the arrays hold
+abbrev pub allocationIn : Registration → Allocated → Allocation
+allocationIn r allocated =
+    record {
+      shares = pairsOf r (placeAt (allocated .shares));
+      withdrawals = remainingIn r (allocated .left) .withdrawals;
+      supplies = remainingIn r (allocated .left) .supplies;
+      rounds = allocated .rounds;
+    }

@@ -19,11 +19,13 @@ use Rattle.journal.specs.Entries.{Entry, pointIn, dayIn, quarterIn, readingsAt}
 use Rattle.journal.specs.Damage.{entryRight, entriesRight}
 use Rattle.journal.proofs.Entries.{all4, parts}
 use Rattle.allocation.specs.Input.{magnitudeMost, Shareable}
-use Rattle.allocation.specs.Result.{allocationOf, numbersOf}
-use Rattle.allocation.proofs.ResultBounds.{rounds-most, ResultWithin, result-within}
+use Rattle.allocation.specs.Result.{allocationOf}
+use Rattle.allocation.proofs.Laws.{rounds-most}
 use Rattle.evaluation.specs.Earlier.{Slot, earlier}
 use Rattle.evaluation.specs.Substitutes.{valueAt, magnitudeOf}
 use Rattle.evaluation.specs.Evaluation.{evaluationOf}
+use Rattle.evaluation.specs.Layout.{resultOf}
+use Rattle.evaluation.proofs.ResultBounds.{ResultWithin, result-within}
 use Rattle.evaluation.proofs.Means.{Small}
 use Rattle.evaluation.proofs.Substituted.{from-within}
 
@@ -74,7 +76,7 @@ magnitude-small status readings each day quarter T =
 module _ (r : Registration) (readings : ℕ → ℕ → ℕ → List Reading) (day quarter T : ℕ) where
   -- each number of the result is within
   pub evaluation-within : Shareable r → ((code day quarter : ℕ) → AllSmall (readings code day quarter)) → (lent : List ℕ)
-      → ResultWithin r (placed 0 (numbersOf (evaluationOf r readings day quarter T)) lent)
+      → ResultWithin r (placed 0 (resultOf (evaluationOf r readings day quarter T)) lent)
   unfolding evaluationOf
   evaluation-within s each lent =
       result-within r (λ point. magnitudeOf (statusAt r point) (readings (codeAt r point)) day quarter T) s
