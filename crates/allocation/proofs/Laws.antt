@@ -1,23 +1,30 @@
--- What users of the published method rely on: nothing is lost, no share is too great, results have their size, means are nearest, and
--- equal magnitudes have equal results. Assumes nothing.
-use Prim.Native.Nat.{ℕ, zero, suc, _+_, _*_, _<_}
+-- What users of the published method rely on: nothing is lost, no share is too great, there are at most five rounds, each list of an
+-- allocation has its length, and equal magnitudes have equal results. Assumes nothing.
+use Prim.Native.Nat.{ℕ, zero, suc, _+_, _≤_, _<_}
 use mathlib.Core.Path.{_≡_, ap, _∙_}
-use native.Mathlib.Nat.{mul-div-le, lt-mul-div-succ}
+use mathlib.Core.Bool.{_&&_}
 use native.Mathlib.Omega.{arith}
-use lib.ListN.{length, length-append}
+use lib.Dec.{leb, eqb}
+use lib.ListN.{length}
+use Rattle.lists.proofs.Cases.{by-test}
 use Rattle.lists.proofs.TableLaws.{length-table, table-at, table-same, length-joined}
 use Rattle.registration.specs.declared.Registration.{Registration}
 use Rattle.lists.specs.Below.{sumBelow}
 use Rattle.registration.specs.Rules.{points, countAt}
 use Rattle.registration.proofs.Damage.{undamaged-parts}
-use Rattle.allocation.specs.Rounds.{Remaining, shareIn, roundOf, afterRounds, received}
-use Rattle.allocation.specs.Result.{startOf, pairsOf, pairsIn, roundsFor, allocationOf}
+use Rattle.allocation.specs.Rounds.{Remaining, roundsOf, shareIn, roundOf, afterRounds, received}
+use Rattle.allocation.specs.Result.{startOf, pairsOf, roundsFor, allocationOf}
 use Rattle.allocation.specs.Laws.{UndamagedIsShareable, RoundWithinSupply, SupplyAddsUp, WithdrawalAddsUp, WithinWithdrawal}
-use Rattle.allocation.specs.Laws.{AllocationKeepsSupplies, AllocationKeepsWithdrawals, OneRoundWithinKey, ResultSize, MeanIsNearest}
+use Rattle.allocation.specs.Laws.{AllocationKeepsSupplies, AllocationKeepsWithdrawals, OneRoundWithinKey}
 use Rattle.lists.proofs.Sums.{sum-add}
-use Rattle.allocation.proofs.Nearest.{nearest-some}
 use Rattle.allocation.proofs.Consumers.{round-keeps-withdrawal}
 use Rattle.allocation.proofs.Producers.{of-producer-add, taken-within-supply, round-keeps-supply}
+
+-- there are at most five rounds
+pub rounds-most : (iteration points consumers : ℕ) → roundsOf iteration points consumers ≤ 5
+unfolding roundsOf
+rounds-most iteration points consumers =
+    by-test (eqb iteration 1 && leb points 50) (λ t. rw t (omega arith)) (λ t. rw t (omega arith))
 
 pub undamaged-is-shareable : UndamagedIsShareable
 undamaged-is-shareable r e =
@@ -73,21 +80,14 @@ unfolding roundOf afterRounds
 remaining-lengths r magnitude zero = (length-table _ (r .consumers), length-table _ (r .producers))
 remaining-lengths r magnitude (suc rounds) = (length-table _ (r .consumers), length-table _ (r .producers))
 
--- so many numbers does a result have of each sort
-pub result-lengths : (r : Registration) (magnitude : ℕ → ℕ)
-    → (length (allocationOf r magnitude .shares) ≡ pairsIn r) × (length (allocationOf r magnitude .withdrawals) ≡ r .consumers)
+-- so many numbers does an allocation have of each sort
+pub allocation-lengths : (r : Registration) (magnitude : ℕ → ℕ)
+    → (length (allocationOf r magnitude .shares) ≡ sumBelow (countAt r) (r .consumers)) × (length (allocationOf r magnitude .withdrawals) ≡ r .consumers)
     × (length (allocationOf r magnitude .supplies) ≡ r .producers)
 unfolding allocationOf
-result-lengths r magnitude =
+allocation-lengths r magnitude =
     let remaining = remaining-lengths r magnitude (roundsFor r) in
     (pairs-length r (received r (startOf r magnitude) (roundsFor r)), remaining .0, remaining .1)
-
-pub result-size : ResultSize
-result-size r magnitude = rw (length-append, length-append) (omega (arith, result-lengths r magnitude))
-
-pub mean-is-nearest : MeanIsNearest
-mean-is-nearest sum count h =
-    rw (nearest-some sum count h) (omega (arith, mul-div-le (2 * sum + count) (2 * count), lt-mul-div-succ (2 * sum + count) {b = 2 * count} (omega arith)))
 
 -- the allocation rests on the magnitudes of the group's points alone
 pub allocation-same : (r : Registration) (f g : ℕ → ℕ) → ((point : ℕ) → point < points r → f point ≡ g point) → allocationOf r f ≡ allocationOf r g

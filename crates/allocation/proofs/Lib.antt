@@ -1,9 +1,7 @@
-pub mod Nearest
 pub mod Turns
 pub mod Shareable
 pub mod Consumers
 pub mod Producers
 pub mod ArrayRound
 pub mod Laws
-pub mod ResultBounds
 pub mod Rounded

@@ -1,28 +1,25 @@
--- The rounds in the working arrays, one after the other, and the result that is put from them. Assumes nothing.
+-- The rounds in the working arrays, one after the other, and the allocation that the arrays hold after the last. Assumes nothing.
 use Prim.Native.Nat.{ℕ, _+_, _-_, _≤_, _<_}
 use mathlib.Core.Path.{_≡_, refl, sym, ap, _∙_}
 use mathlib.Core.Bool.{Bool, true, false}
-use mathlib.Core.List.{List, _++_}
+use mathlib.Core.List.{List}
 use native.Mathlib.Omega.{arith}
-use native.Mathlib.Nat.{le-antisymm, add-sub-of-le, zero-add}
+use native.Mathlib.Nat.{le-antisymm, add-sub-of-le}
 use native.Mathlib.Numerals.{add-one}
 use lib.Dec.{leb}
 use lib.ListN.{length, getD}
 use borrow.Author.Tests.{leb-true, leb-false}
-use Rattle.lists.specs.Place.{Put}
-use Rattle.lists.specs.Tables.{table}
-use Rattle.lists.proofs.Pieces.{put-on}
-use Rattle.lists.proofs.PlaceLaws.{put-length}
-use Rattle.lists.proofs.TableLaws.{table-at, table-same, joined-same, length-table}
+use Rattle.lists.proofs.TableLaws.{table-at, table-same, joined-same}
 use Rattle.registration.specs.declared.Registration.{Registration}
 use Rattle.registration.specs.Rules.{countAt, placeAt}
 use Rattle.lists.proofs.Below.{sum-none, sum-next}
+use Rattle.values.specs.Values.{magnitudeMost}
 use Rattle.allocation.specs.Input.{Shareable, Magnitudes}
 use Rattle.allocation.specs.Rounds.{Remaining, withdrawalAt, supplyAt, shareIn, roundOf, afterRounds, received}
-use Rattle.allocation.specs.Result.{pairsOf, roundsFor, allocationOf, numbersOf, sizeOf}
-use Rattle.allocation.specs.Working.{remainingIn, PairsWithin, RoundMade, Allocated}
+use Rattle.allocation.specs.Result.{Allocation, pairsOf, roundsFor, allocationOf}
+use Rattle.allocation.specs.Working.{remainingIn, PairsWithin, RoundMade, allocationIn}
 use Rattle.lists.proofs.Sums.{sum-term}
-use Rattle.allocation.proofs.Laws.{supply-adds-up, withdrawal-adds-up, within-withdrawal, pairs-length}
+use Rattle.allocation.proofs.Laws.{supply-adds-up, withdrawal-adds-up, within-withdrawal}
 
 after-none : (r : Registration) (start : Remaining) → afterRounds r start 0 ≡ start
 unfolding afterRounds
@@ -31,6 +28,12 @@ after-none r start = refl
 after-next : (r : Registration) (start : Remaining) (n : ℕ) → afterRounds r start (n + 1) ≡ roundOf r (afterRounds r start n)
 unfolding afterRounds
 after-next r start n = rw add-one
+
+-- equal lists and round counts make equal allocations
+equal-lists : {s s′ w w′ p p′ : List ℕ} {n n′ : ℕ} → s ≡ s′ → w ≡ w′ → p ≡ p′ → n ≡ n′
+    → _≡_ {A = Allocation} (record { shares = s; withdrawals = w; supplies = p; rounds = n })
+    (record { shares = s′; withdrawals = w′; supplies = p′; rounds = n′ })
+equal-lists e f g h = rw (e, f, g, h)
 
 -- so many rounds have been made
 pub record Rounded (r : Registration) (most : ℕ) (magnitudes left shares : List ℕ) (round : ℕ) : Type 0 where
@@ -54,14 +57,14 @@ rounded-none r most magnitudes shares points-size pairs-size none =
 
 module _ {r : Registration} (s : Shareable r) {most round : ℕ} {magnitudes left shares : List ℕ}
     (m : Magnitudes r (λ point. getD magnitudes point 0)) (t : Rounded r most magnitudes left shares round) where
-  supply-left : (p : ℕ) → p < r .producers → getD left p 0 ≤ 99999999
+  supply-left : (p : ℕ) → p < r .producers → getD left p 0 ≤ magnitudeMost
   supply-left p h =
       let here : getD left p 0 ≡ supplyAt (afterRounds r (remainingIn r magnitudes) round) p =
       sym (table-at (λ point. getD left point 0) (r .producers) p h) ∙ ap (λ (x : Remaining). supplyAt x p) (t .remains) in
       let first = table-at (λ point. getD magnitudes point 0) (r .producers) p h in
       omega (arith, here, first, supply-adds-up r (remainingIn r magnitudes) round s p h, m p (omega arith))
 
-  withdrawal-left : (c : ℕ) → c < r .consumers → getD left (r .producers + c) 0 ≤ 99999999
+  withdrawal-left : (c : ℕ) → c < r .consumers → getD left (r .producers + c) 0 ≤ magnitudeMost
   withdrawal-left c h =
       let here : getD left (r .producers + c) 0 ≡ withdrawalAt (afterRounds r (remainingIn r magnitudes) round) c =
       sym (table-at (λ c. getD left (r .producers + c) 0) (r .consumers) c h) ∙ ap (λ (x : Remaining). withdrawalAt x c) (t .remains) in
@@ -72,7 +75,7 @@ module _ {r : Registration} (s : Shareable r) {most round : ℕ} {magnitudes lef
   pub still-magnitudes : Magnitudes r (λ point. getD left point 0)
   still-magnitudes point h = go (leb (r .producers) point) refl
     where
-      go : (b : Bool) → leb (r .producers) point ≡ b → getD left point 0 ≤ 99999999
+      go : (b : Bool) → leb (r .producers) point ≡ b → getD left point 0 ≤ magnitudeMost
       go true e =
           let l = leb-true (r .producers) point e in
           rw (← add-sub-of-le l) (withdrawal-left (point - r .producers) (omega arith))
@@ -125,24 +128,7 @@ module _ {r : Registration} (s : Shareable r) {most round : ℕ} {magnitudes lef
         (λ c l. table-same _ _ (countAt r c)
         (λ k n. t .sums c k l n ∙ ap (λ (i : ℕ). received r (remainingIn r magnitudes) i c k) rounds-same))
 
-    supplies-last : table (λ i. getD left (0 + i) 0) (r .producers) ≡ afterRounds r (remainingIn r magnitudes) (roundsFor r) .supplies
-    supplies-last = table-same _ _ (r .producers) (λ i l. rw zero-add) ∙ ap (λ (x : Remaining). x .supplies) remains-last
-
-    numbers-last : pairsOf r (placeAt shares) ++ (table (λ i. getD left (r .producers + i) 0) (r .consumers) ++ table (λ i. getD left (0 + i) 0) (r .producers))
-        ≡ numbersOf (allocationOf r (λ point. getD magnitudes point 0))
+    pub allocated : allocationIn r (record { shares = shares; left = left; rounds = most }) ≡ allocationOf r (λ point. getD magnitudes point 0)
     unfolding allocationOf
-    numbers-last = rw (shares-last, supplies-last, ap (λ (x : Remaining). x .withdrawals) remains-last)
-
-    -- and the result is put from them
-    pub allocated : {middle last end : ℕ} {before first second after : List ℕ} → sizeOf r ≤ length before
-        → Put 0 (pairsOf r (placeAt shares)) before first middle
-        → Put middle (table (λ i. getD left (r .producers + i) 0) (r .consumers)) first second last
-        → Put last (table (λ i. getD left (0 + i) 0) (r .producers)) second after end
-        → Allocated r (λ point. getD magnitudes point 0) before after most
-    unfolding allocationOf
-    allocated {middle} {last} {end} {before} {first} room p q w =
-        let pairs = pairs-length r (placeAt shares) in
-        let consumers = length-table (λ i. getD left (r .producers + i) 0) (r .consumers) in
-        let same : length first ≡ length before = put-length (omega (arith, pairs)) p in
-        let whole = put-on (omega (arith, p .end, pairs)) p (put-on (omega (arith, p .end, q .end, pairs, consumers, same)) q w) in
-        record { rounds = e; result = whole .list ∙ rw numbers-last }
+    allocated =
+        equal-lists shares-last (ap (λ (x : Remaining). x .withdrawals) remains-last) (ap (λ (x : Remaining). x .supplies) remains-last) e

@@ -3,8 +3,10 @@ use Prim.Native.Nat.{ℕ, _≤_, _<_, _+_}
 use mathlib.Core.Path.{_≡_}
 use mathlib.Core.Bool.{true}
 use Rattle.registration.specs.declared.Registration.{Registration}
-use Rattle.registration.specs.Rules.{countAt, sourceAt, keyAt, countRight, consumerRight}
+use Rattle.registration.specs.Rules.{countAt, sourceAt, keyAt, countRight, pairRight, pairsRight, consumerRight}
+use Rattle.lists.specs.Below.{every}
 use Rattle.lists.proofs.Below.{and-left, and-right, every-at}
+use Rattle.lists.proofs.Different.{few-differ}
 use Rattle.registration.proofs.Bounds.{count-bounds, PairBounds, pair-bounds}
 use Rattle.registration.proofs.Damage.{point-bounds}
 use Rattle.allocation.specs.Input.{Shareable}
@@ -24,3 +26,12 @@ module _ {r : Registration} (s : Shareable r) where
   pair-of consumer priority h l =
       pair-bounds (r .producers) (countAt r consumer) (sourceAt r consumer) (keyAt r consumer)
       (and-right (countRight (countAt r consumer)) _ (right consumer h)) priority l
+
+  -- a consumer names no producer twice, so no more of them than there are
+  pub count-within : (consumer : ℕ) → consumer < r .consumers → countAt r consumer ≤ r .producers
+  unfolding pairsRight
+  count-within consumer h =
+      few-differ (sourceAt r consumer) (countAt r consumer) (r .producers)
+      (and-right (every (λ priority. pairRight (r .producers) (sourceAt r consumer priority) (keyAt r consumer priority)) (countAt r consumer)) _
+      (and-right (countRight (countAt r consumer)) _ (right consumer h)))
+      (λ priority l. let b = pair-of consumer priority h l in (b .source-least, b .source-most))

@@ -2,6 +2,7 @@
 use Prim.Native.Nat.{ℕ, _≤_, _<_}
 use mathlib.Core.Path.{_≡_}
 use mathlib.Core.Bool.{true}
+use Rattle.values.specs.Values.{magnitudeMost}
 use Rattle.registration.specs.declared.Registration.{Registration}
 use Rattle.registration.specs.Rules.{points, pointCountsRight, consumersRight, keysRight}
 
@@ -13,4 +14,4 @@ pub record Shareable (r : Registration) : Type 0 where
 
 -- the magnitude of each point is at most the greatest that a reading may have
 abbrev pub Magnitudes : Registration → (ℕ → ℕ) → Type 0
-Magnitudes r magnitude = (point : ℕ) → point < points r → magnitude point ≤ 99999999
+Magnitudes r magnitude = (point : ℕ) → point < points r → magnitude point ≤ magnitudeMost

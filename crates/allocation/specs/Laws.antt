@@ -2,13 +2,12 @@
 use Prim.Native.Nat.{ℕ, _+_, _-_, _*_, _/_, _≤_, _<_}
 use mathlib.Core.Path.{_≡_}
 use mathlib.Core.Bool.{false}
-use lib.ListN.{length, getD}
+use lib.ListN.{getD}
 use Rattle.registration.specs.declared.Registration.{Registration}
 use Rattle.registration.specs.Rules.{sourceAt, keyAt}
 use Rattle.registration.specs.Damage.{isDamaged}
 use Rattle.allocation.specs.Rounds.{Remaining, withdrawalAt, supplyAt, ofConsumer, ofProducer, shareIn, afterRounds, received}
-use Rattle.allocation.specs.Result.{startOf, roundsFor, allocationOf, numbersOf, sizeOf}
-use Rattle.allocation.specs.Mean.{nearest}
+use Rattle.allocation.specs.Result.{startOf, roundsFor, allocationOf}
 use Rattle.allocation.specs.Input.{Shareable}
 
 -- every undamaged registration can be shared by
@@ -57,13 +56,3 @@ abbrev pub OneRoundWithinKey : Type 0
 OneRoundWithinKey =
     (r : Registration) (start : Remaining) (consumer priority : ℕ)
     → received r start 1 consumer priority ≤ keyAt r consumer priority * supplyAt start (sourceAt r consumer priority - 1) / 10000
-
--- a result has one number for each pair, each consumer and each producer
-abbrev pub ResultSize : Type 0
-ResultSize = (r : Registration) (magnitude : ℕ → ℕ) → length (numbersOf (allocationOf r magnitude)) ≡ sizeOf r
-
--- the mean is the whole number nearest to the sum divided by the count, halves up: at most half a unit above it, and less than half a unit below it
-abbrev pub MeanIsNearest : Type 0
-MeanIsNearest =
-    (sum count : ℕ) → 1 ≤ count
-    → (2 * (count * nearest sum count) ≤ 2 * sum + count) × (2 * sum < 2 * (count * nearest sum count) + count)

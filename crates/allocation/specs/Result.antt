@@ -1,9 +1,8 @@
 -- The result of an allocation, from the magnitudes of all points in one quarter hour. Assumes nothing.
 use Prim.Native.Nat.{ℕ, _+_}
-use mathlib.Core.List.{List, _++_}
+use mathlib.Core.List.{List}
 use Rattle.lists.specs.Tables.{joined, table}
 use Rattle.registration.specs.declared.Registration.{Registration}
-use Rattle.lists.specs.Below.{sumBelow}
 use Rattle.registration.specs.Rules.{points, countAt}
 use Rattle.allocation.specs.Rounds.{Remaining, roundsOf, afterRounds, received}
 
@@ -39,15 +38,3 @@ allocationOf r magnitude =
       supplies = afterRounds r (startOf r magnitude) (roundsFor r) .supplies;
       rounds = roundsFor r;
     }
-
--- the numbers of a result list
-abbrev pub numbersOf : Allocation → List ℕ
-numbersOf allocation = allocation .shares ++ (allocation .withdrawals ++ allocation .supplies)
-
--- how many pairs a group has: each consumer with each producer that it names
-abbrev pub pairsIn : Registration → ℕ
-pairsIn r = sumBelow (countAt r) (r .consumers)
-
--- how many numbers they are: one for each pair, each consumer and each producer
-abbrev pub sizeOf : Registration → ℕ
-sizeOf r = pairsIn r + r .consumers + r .producers

@@ -1,15 +1,12 @@
-// The published method: how much of each producer's supply every consumer receives in a quarter hour, and the mean that stands in for a
-// missing reading.
+// The published method: how much of each producer's supply every consumer receives in a quarter hour.
 ghost use mathlib.Core.Path.{_≡_};
-ghost use Prim.Native.Nat.{_+_, _≤_, _<_};
+ghost use Prim.Native.Nat.{_≤_};
 ghost use lib.ListN.{length, getD};
-ghost use Rattle.lists.specs.Place.{Put};
-ghost use Rattle.registration.specs.Rules.{points, placeAt};
+ghost use Rattle.values.specs.Values.{magnitudeMost};
 ghost use Rattle.allocation.specs.Input.{Shareable, Magnitudes};
 ghost use Rattle.allocation.specs.Rounds.{roundsOf, offerOf, shareOf};
-ghost use Rattle.allocation.specs.Result.{pairsOf, pairsIn, sizeOf};
-ghost use Rattle.allocation.specs.Mean.{nearest};
-ghost use Rattle.allocation.specs.Working.{PairsWithin, RoundMade, Allocated};
+ghost use Rattle.allocation.specs.Result.{allocationOf};
+ghost use Rattle.allocation.specs.Working.{PairsWithin, RoundMade, allocationIn};
 use registration::Registration;
 
 // The most rounds that there are, and the most points with which there is more than one.
@@ -17,19 +14,12 @@ pub const ROUNDS_MOST: usize = 5;
 
 pub const POINTS_ITERATED_MOST: usize = 50;
 
-// The sum of values divided by their count, rounded to the nearest whole number, halves up; 0 where there is none.
-pub fn mean(sum: u64, count: u64) -> u64
-    ensures { λ r. ⌜ r ≡ nearest sum count ⌝ }
-{
-    if count == 0 {
-        return 0;
-    }
-    let whole = sum / count;
-    let rest = sum % count;
-    if rest < count - rest {
-        return whole;
-    }
-    whole + 1
+// An allocation of a quarter hour in working arrays: what each pair received, at 5 × consumer + priority; what is left of each point,
+// producers first; and the round count.
+pub struct Allocated {
+    pub shares: [u64; 320],
+    pub left: [u64; 64],
+    pub rounds: usize,
 }
 
 // How many rounds a group of so many points and consumers has.
@@ -48,33 +38,9 @@ pub fn rounds(iteration: u8, points: usize, consumers: usize) -> usize
     ROUNDS_MOST
 }
 
-// How many pairs a group has: each consumer with each producer that it names.
-pub fn pairs(registration: Registration) -> usize
-    requires { ⌜ points registration ≤ 64 ⌝ }
-    ensures { λ r. ⌜ (r ≡ pairsIn registration) × (r ≤ 16320) ⌝ }
-{
-    let counts = registration.counts;
-    let consumers = registration.consumers;
-    let mut pairs = 0;
-    let mut consumer = 0;
-    while consumer < consumers {
-        pairs += counts[consumer] as usize;
-        consumer += 1;
-    }
-    pairs
-}
-
-// How many numbers a result has: one for each pair, each consumer and each producer.
-pub fn size(registration: Registration) -> usize
-    requires { ⌜ points registration ≤ 64 ⌝ }
-    ensures { λ r. ⌜ r ≡ sizeOf registration ⌝ }
-{
-    pairs(registration) + registration.consumers + registration.producers
-}
-
 // A pair's share: the smaller of the remaining withdrawal and what the key gives of the supply, rounded down.
 fn share_of(withdrawal: u64, key: u64, supply: u64) -> u64
-    requires { ⌜ (key ≤ 10000) × (supply ≤ 99999999) ⌝ }
+    requires { ⌜ (key ≤ 10000) × (supply ≤ magnitudeMost) ⌝ }
     ensures { λ r. ⌜ r ≡ shareOf withdrawal (offerOf key supply) ⌝ }
 {
     let offer = key * supply / Registration::KEY_MOST;
@@ -118,28 +84,10 @@ fn make_round(registration: Registration, start: [u64; 64], shares: &mut [u64]) 
     left
 }
 
-// Puts the pairs' sums at the front of a result, consumers in order and priorities within, and returns the place after them.
-fn put_shares(out: &mut [u64], registration: Registration, shares: &[u64; 320]) -> usize
-    requires { ⌜ Shareable registration × (length (pairsOf registration (placeAt (now shares))) ≤ length (now out)) ⌝ }
-    ensures { λ r. ⌜ Put 0 (pairsOf registration (placeAt (now (shares .entry)))) (now (out .entry)) (now (out .exit)) r ⌝ }
-{
-    let counts = registration.counts;
-    let consumers = registration.consumers;
-    let mut at = 0;
-    let mut consumer = 0;
-    while consumer < consumers {
-        let count = counts[consumer] as usize;
-        at = lists::put_part(out, at, shares, 5 * consumer, count);
-        consumer += 1;
-    }
-    at
-}
-
-// The allocation of a quarter hour from the magnitudes of all points, producers first. The result list gets the pairs' shares, the
-// remaining withdrawals and the remaining supplies; its later numbers stay. Returns the round count.
-pub fn allocate(registration: Registration, magnitudes: [u64; 64], result: &mut [u64]) -> usize
-    requires { ⌜ Shareable registration × Magnitudes registration (λ point. getD magnitudes point 0) × (sizeOf registration ≤ length (now result)) ⌝ }
-    ensures { λ r. ⌜ Allocated registration (λ point. getD magnitudes point 0) (now (result .entry)) (now (result .exit)) r ⌝ }
+// The allocation of a quarter hour from the magnitudes of all points, producers first.
+pub fn allocate(registration: Registration, magnitudes: [u64; 64]) -> Allocated
+    requires { ⌜ Shareable registration × Magnitudes registration (λ point. getD magnitudes point 0) ⌝ }
+    ensures { λ r. ⌜ allocationIn registration r ≡ allocationOf registration (λ point. getD magnitudes point 0) ⌝ }
 {
     let producers = registration.producers;
     let consumers = registration.consumers;
@@ -148,11 +96,13 @@ pub fn allocate(registration: Registration, magnitudes: [u64; 64], result: &mut 
     let mut shares = [0; 320];
     let mut round: usize = 0;
     while round < most {
-        left = make_round(registration, left, &mut shares);
+        let after = make_round(registration, left, &mut shares);
+        left = after;
         round += 1;
     }
-    let after_shares = put_shares(result, registration, &shares);
-    let after_withdrawals = lists::put_part(result, after_shares, &left, producers, consumers);
-    lists::put_part(result, after_withdrawals, &left, 0, producers);
-    most
+    Allocated {
+        shares,
+        left,
+        rounds: most,
+    }
 }

@@ -22,7 +22,7 @@ use Rattle.registration.specs.Rules.{pairsRight}
 use Rattle.registration.specs.Damage.{isDamaged, empty}
 use Rattle.allocation.specs.Rounds.{roundsOf, leftAt, roundOf, afterRounds}
 use Rattle.allocation.specs.Result.{allocationOf}
-use Rattle.allocation.specs.Mean.{sumOf, nearest}
+use Rattle.evaluation.specs.Mean.{sumOf, nearest}
 use Rattle.journal.specs.Order.{weaker}
 use Rattle.journal.specs.Readings.{shown}
 use Rattle.journal.specs.Entries.{keep}

@@ -24,7 +24,7 @@ use Rattle.journal.specs.Stored.{entries, flat, written}
 use Rattle.journal.specs.Damage.{entryRight, entriesRight}
 use Rattle.allocation.specs.Rounds.{roundsOf, leftAt, roundOf, afterRounds}
 use Rattle.allocation.specs.Result.{allocationOf}
-use Rattle.allocation.specs.Mean.{sumOf, nearest}
+use Rattle.evaluation.specs.Mean.{sumOf, nearest}
 use Rattle.evaluation.specs.Earlier.{earlier}
 use Rattle.evaluation.specs.Substitutes.{existing, magnitudeOf}
 use Rattle.evaluation.specs.Evaluation.{evaluationOf}

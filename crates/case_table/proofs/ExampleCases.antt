@@ -15,7 +15,7 @@ use Rattle.registration.specs.Rules.{pairsRight}
 use Rattle.registration.specs.Damage.{isDamaged}
 use Rattle.allocation.specs.Rounds.{withdrawalAt, roundsOf, leftAt, offerIn, shareIn, roundOf, afterRounds, received, ofConsumer, ofProducer}
 use Rattle.allocation.specs.Result.{startOf, pairsOf, roundsFor}
-use Rattle.allocation.specs.Mean.{sumOf, nearest, meanOf}
+use Rattle.evaluation.specs.Mean.{sumOf, nearest, meanOf}
 use Rattle.case_table.proofs.Same.{same}
 
 -- a producer that a consumer names, by its number, and the key

@@ -4,10 +4,8 @@ use native.Mathlib.Omega.{arith}
 use mathlib.Core.Path.{_≡_, refl}
 use mathlib.Core.List.{List}
 use Rattle.calendar.proofs.Laws.{exists-day}
-use Rattle.registration.specs.Rules.{codeAt, statusAt}
-use Rattle.evaluation.specs.Substitutes.{magnitudeOf}
 use Rattle.evaluation.specs.Evaluation.{evaluationOf}
-use Rattle.evaluation.proofs.Laws.{part-lengths, parts-stand}
+use Rattle.evaluation.proofs.Laws.{evaluation-lengths, parts-stand}
 use Rattle.evaluation.proofs.Alike.{evaluation-alike}
 use Rattle.service.specs.Group.{Group, readingsOf}
 use Rattle.service.specs.Calls.{evaluated}
@@ -33,13 +31,12 @@ module _ (last : ℕ) (G : Group) (day quarter T : ℕ) (lent : List ℕ) (book 
 
   -- the list lent and the number returned give it
   pub evaluation-right : Gives (book .page .registration) (bookResult book day quarter T) (evaluated last G day quarter T lent .seen)
-  unfolding evaluated evaluationOf
+  unfolding evaluated
   evaluation-right =
       let r = G .registration in
       let result = evaluationOf r (readingsOf G) day quarter T in
       rw (← same-result, ← rel .registration)
       (record {
-        parts = λ part. parts-stand r result
-            (part-lengths r (λ point. magnitudeOf (statusAt r point) (readingsOf G (codeAt r point)) day quarter T)) lent part;
+        parts = λ part. parts-stand r result (evaluation-lengths r (readingsOf G) day quarter T) lent part;
         rounds = refl;
       })

@@ -1,4 +1,4 @@
--- What is allocated from the working table is the allocation of the readings. Assumes nothing.
+-- What is allocated from the working table is the allocation of the readings, and so is what is put into the result list. Assumes nothing.
 use Prim.Native.Nat.{ℕ, _-_, _*_, _<_}
 use mathlib.Core.Path.{_≡_, ap, _∙_}
 use mathlib.Core.List.{List, [], _∷_}
@@ -12,13 +12,15 @@ use Rattle.registration.specs.Rules.{points, statusAt}
 use Rattle.journal.specs.Value.{Value}
 use Rattle.journal.specs.Entries.{Entry, placeOf, readingsAt}
 use Rattle.allocation.specs.Input.{Shareable, Magnitudes}
-use Rattle.allocation.specs.Result.{Allocation, allocationOf, numbersOf}
-use Rattle.allocation.specs.Working.{Allocated}
+use Rattle.allocation.specs.declared.Allocated.{Allocated}
+use Rattle.allocation.specs.Result.{Allocation, allocationOf}
+use Rattle.allocation.specs.Working.{allocationIn}
 use Rattle.allocation.proofs.Shareable.{few-points}
 use Rattle.allocation.proofs.Laws.{allocation-same}
 use Rattle.evaluation.specs.Earlier.{earlier}
 use Rattle.evaluation.specs.Substitutes.{magnitudeFrom, magnitudeOf}
 use Rattle.evaluation.specs.Evaluation.{magnitudesIn}
+use Rattle.evaluation.specs.Layout.{resultOf, ResultPut}
 use Rattle.evaluation.specs.Working.{magnitudeIn, Gathered, AllOf}
 use Rattle.evaluation.proofs.Substituted.{magnitude-within}
 
@@ -49,13 +51,15 @@ module _ {r : Registration} (s : Shareable r) {es : List Entry} {day quarter unt
   all-within point h =
       rw (a .each point h) (magnitude-within table point (statusAt r point) (g .within) (omega (arith, few-points s)))
 
-  -- what it has allocated is the result of the readings
-  pub evaluated : {before after : List ℕ} {returned : ℕ} → Allocated r (λ point. getD all point 0) before after returned
-      → Allocated r (magnitudesIn r es day quarter until) before after returned
-  evaluated {before} done =
-      let same : allocationOf r (λ point. getD all point 0) ≡ allocationOf r (magnitudesIn r es day quarter until) =
-      allocation-same r _ _ (λ point h. a .each point h ∙ magnitude-shown es day quarter until table g point (statusAt r point) (omega (arith, few-points s))) in
+  -- what it has allocated is the allocation of the readings, and is put
+  pub evaluated : {before after : List ℕ} (allocated : Allocated) → allocationIn r allocated ≡ allocationOf r (λ point. getD all point 0)
+      → after ≡ placed 0 (resultOf (allocationIn r allocated)) before
+      → ResultPut (allocationOf r (magnitudesIn r es day quarter until)) before after (allocated .rounds)
+  evaluated {before} allocated done put =
+      let same : allocationIn r allocated ≡ allocationOf r (magnitudesIn r es day quarter until) =
+      done
+      ∙ allocation-same r _ _ (λ point h. a .each point h ∙ magnitude-shown es day quarter until table g point (statusAt r point) (omega (arith, few-points s))) in
       record {
-        rounds = done .rounds ∙ ap (λ (x : Allocation). x .rounds) same;
-        result = done .result ∙ ap (λ (x : Allocation). placed 0 (numbersOf x) before) same;
+        rounds = ap (λ (x : Allocation). x .rounds) same;
+        result = put ∙ ap (λ (x : Allocation). placed 0 (resultOf x) before) same;
       }

@@ -7,6 +7,7 @@ use native.Mathlib.Numerals.{add-one}
 use native.Mathlib.Omega.{arith}
 use lib.Dec.{leb}
 use lib.ListN.{length, getD}
+use Rattle.journal.specs.Entries.{pointPlaces}
 use Rattle.lists.proofs.Cases.{by-test}
 use Rattle.calendar.specs.Quarters.{quarterExists}
 use Rattle.calendar.proofs.Laws.{exists-day, exists-quarter}
@@ -19,7 +20,7 @@ use Rattle.evaluation.proofs.Values.{value-then, value-none}
 
 module _ (day quarter until : ℕ) (exists : quarterExists day quarter ≡ true) where
   -- the slot of a quarter hour that exists
-  pub slot-bound : day * 100 + (quarter - 1) < 2775900
+  pub slot-bound : day * 100 + (quarter - 1) < pointPlaces
   slot-bound = omega (arith, exists-day day quarter exists, exists-quarter day quarter exists)
 
   -- a table of zeros holds no reading

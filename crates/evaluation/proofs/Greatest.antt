@@ -18,19 +18,22 @@ use Rattle.journal.specs.Readings.{join, strongest, asOf, shown, valueShown}
 use Rattle.journal.specs.Entries.{Entry, pointIn, dayIn, quarterIn, readingsAt}
 use Rattle.journal.specs.Damage.{entryRight, entriesRight}
 use Rattle.journal.proofs.Entries.{all4, parts}
+use Rattle.values.specs.Values.{magnitudeMost}
 use Rattle.allocation.specs.Input.{Shareable}
-use Rattle.allocation.specs.Result.{allocationOf, numbersOf}
-use Rattle.allocation.proofs.ResultBounds.{rounds-most, ResultWithin, result-within}
+use Rattle.allocation.specs.Result.{allocationOf}
+use Rattle.allocation.proofs.Laws.{rounds-most}
 use Rattle.evaluation.specs.Earlier.{Slot, earlier}
 use Rattle.evaluation.specs.Substitutes.{valueAt, magnitudeOf}
 use Rattle.evaluation.specs.Evaluation.{evaluationOf}
+use Rattle.evaluation.specs.Layout.{resultOf}
+use Rattle.evaluation.proofs.ResultBounds.{ResultWithin, result-within}
 use Rattle.evaluation.proofs.Means.{Small}
 use Rattle.evaluation.proofs.Substituted.{from-within}
 
 -- the magnitude of each reading is at most the greatest
 abbrev pub AllSmall : List Reading → Type 0
 AllSmall [] = Unit {0}
-AllSmall (r ∷ rs) = (r .value .magnitude ≤ 99999999) × AllSmall rs
+AllSmall (r ∷ rs) = (r .value .magnitude ≤ magnitudeMost) × AllSmall rs
 
 -- of two readings one is chosen
 join-small : (o p : Option Reading) → Small (valueShown o) → Small (valueShown p) → Small (valueShown (join o p))
@@ -55,7 +58,7 @@ readings-small points K last lo place (e ∷ es) h =
     let k = parts points K last lo e es h in
     let a = all4 (ltb (pointIn (e .place)) points) (leb K (dayIn (e .place))) (quarterExists (dayIn (e .place)) (quarterIn (e .place))) (storedRight (e .stored)) (k .2) in
     let rest = readings-small points K last (e .stamp) place es (k .3) in
-    by-test (eqb (e .place) place) (λ t. rw t (leb-true (e .stored) 99999999 (a .3), rest)) (λ t. rw t rest)
+    by-test (eqb (e .place) place) (λ t. rw t (leb-true (e .stored) magnitudeMost (a .3), rest)) (λ t. rw t rest)
 
 -- the value of a quarter hour that need not exist
 value-small : (T : ℕ) (readings : ℕ → ℕ → List Reading) → ((day quarter : ℕ) → AllSmall (readings day quarter)) → (o : Option Slot)
@@ -65,7 +68,7 @@ value-small T readings each (some slot) = shown-small T (readings (slot .day) (s
 
 -- so the magnitude of a point is within
 magnitude-small : (status : ℕ) (readings : ℕ → ℕ → List Reading) → ((day quarter : ℕ) → AllSmall (readings day quarter)) → (day quarter T : ℕ)
-    → magnitudeOf status readings day quarter T ≤ 99999999
+    → magnitudeOf status readings day quarter T ≤ magnitudeMost
 unfolding magnitudeOf
 magnitude-small status readings each day quarter T =
     from-within status (valueShown (shown T (readings day quarter))) (λ n. valueAt T readings (earlier n day quarter))
@@ -74,7 +77,7 @@ magnitude-small status readings each day quarter T =
 module _ (r : Registration) (readings : ℕ → ℕ → ℕ → List Reading) (day quarter T : ℕ) where
   -- each number of the result is within
   pub evaluation-within : Shareable r → ((code day quarter : ℕ) → AllSmall (readings code day quarter)) → (lent : List ℕ)
-      → ResultWithin r (placed 0 (numbersOf (evaluationOf r readings day quarter T)) lent)
+      → ResultWithin r (placed 0 (resultOf (evaluationOf r readings day quarter T)) lent)
   unfolding evaluationOf
   evaluation-within s each lent =
       result-within r (λ point. magnitudeOf (statusAt r point) (readings (codeAt r point)) day quarter T) s

@@ -1,3 +1,8 @@
+pub mod Nearest
+pub mod Parts
+pub mod Laws
+pub mod Reached
+pub mod ResultBounds
 pub mod Places
 pub mod Taken
 pub mod Passed

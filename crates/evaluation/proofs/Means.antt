@@ -10,10 +10,11 @@ use lib.ListN.{length, drop}
 use borrow.Author.Tests.{leb-true, leb-false}
 use Rattle.lists.proofs.Cases.{by-test}
 use Rattle.journal.specs.Value.{Value}
-use Rattle.allocation.specs.Mean.{sumOf, nearest, meanOf}
-use Rattle.allocation.proofs.Laws.{mean-is-nearest}
+use Rattle.values.specs.Values.{magnitudeMost}
+use Rattle.evaluation.specs.Mean.{sumOf, nearest, meanOf}
 use Rattle.evaluation.specs.Substitutes.{existing, fourWeeks}
 use Rattle.evaluation.specs.Working.{valueFor, numberAt, weekOf, weeksOf}
+use Rattle.evaluation.proofs.Laws.{mean-is-nearest}
 
 -- a number 0 has no value
 values-skip : (number : ℕ) (values : List (Option Value)) → number ≡ 0 → existing (valueFor number ∷ values) ≡ existing values
@@ -53,7 +54,7 @@ pub record Summing (table : List ℕ) (point sum count week : ℕ) : Type 0 wher
   pub first : 1 ≤ week
   pub last : week ≤ 5
   pub few : count < week
-  pub small : sum ≤ 99999999 * count
+  pub small : sum ≤ magnitudeMost * count
   pub sums : sum + sumOf (existing (map (weekOf table point) (weeksFrom week))) ≡ sumOf (existing (weeksOf table point))
   pub counts : count + length (existing (map (weekOf table point) (weeksFrom week))) ≡ length (existing (weeksOf table point))
 
@@ -64,7 +65,7 @@ summing-none table point =
 
 module _ {table : List ℕ} {point sum count week : ℕ} (s : Summing table point sum count week) where
   -- one week more, with a value
-  pub summing-some : week < 5 → 0 < numberAt table point week → numberAt table point week ≤ 100000000
+  pub summing-some : week < 5 → 0 < numberAt table point week → numberAt table point week ≤ magnitudeMost + 1
       → Summing table point (sum + (numberAt table point week - 1)) (count + 1) (week + 1)
   summing-some h value within =
       let number = numberAt table point week in
@@ -103,30 +104,30 @@ module _ {table : List ℕ} {point sum count week : ℕ} (s : Summing table poin
       rw (a, b)
 
 -- a mean of numbers up to the greatest magnitude is not above it
-nearest-within : (sum count : ℕ) → sum ≤ 99999999 * count → nearest sum count ≤ 99999999
+nearest-within : (sum count : ℕ) → sum ≤ magnitudeMost * count → nearest sum count ≤ magnitudeMost
 unfolding nearest
 nearest-within sum zero h = omega arith
 nearest-within sum (suc n) h =
     let count = suc n in
-    by-test (leb (nearest sum count) 99999999) (leb-true (nearest sum count) 99999999)
+    by-test (leb (nearest sum count) magnitudeMost) (leb-true (nearest sum count) magnitudeMost)
     (λ f.
-    let over : 100000000 ≤ nearest sum count = leb-false (nearest sum count) 99999999 f in
-    let product : count * 100000000 ≤ count * nearest sum count = mul-le-mul (omega arith) over in
+    let over : magnitudeMost + 1 ≤ nearest sum count = leb-false (nearest sum count) magnitudeMost f in
+    let product : count * (magnitudeMost + 1) ≤ count * nearest sum count = mul-le-mul (omega arith) over in
     absurd (omega (arith, mean-is-nearest sum count (omega arith))))
 
 -- a value that need not exist is at most the greatest magnitude
 abbrev pub Small : Option Value → Type 0
 Small none = Unit {0}
-Small (some value) = value .magnitude ≤ 99999999
+Small (some value) = value .magnitude ≤ magnitudeMost
 
 -- so is the value that a number of the table stands for
-pub small-for : (number : ℕ) → number ≤ 100000000 → Small (valueFor number)
+pub small-for : (number : ℕ) → number ≤ magnitudeMost + 1 → Small (valueFor number)
 small-for zero h = tt
 small-for (suc n) h = omega arith
 
 -- the sum of the values is at most the greatest magnitude for each
 abbrev SumWithin : List (Option Value) → Type 0
-SumWithin values = sumOf (existing values) ≤ 99999999 * length (existing values)
+SumWithin values = sumOf (existing values) ≤ magnitudeMost * length (existing values)
 
 within-none : SumWithin []
 unfolding existing sumOf
@@ -138,7 +139,7 @@ within-cons none values h s = s
 within-cons (some value) values h s = omega (arith, s)
 
 -- so the mean of the earlier weeks is within
-pub mean-within : (week : ℕ → Option Value) → ((n : ℕ) → n < 5 → Small (week n)) → meanOf (existing (map week fourWeeks)) ≤ 99999999
+pub mean-within : (week : ℕ → Option Value) → ((n : ℕ) → n < 5 → Small (week n)) → meanOf (existing (map week fourWeeks)) ≤ magnitudeMost
 mean-within week small =
     nearest-within _ _
     (within-cons (week 1) _ (small 1 (omega arith))

@@ -10,12 +10,13 @@ use lib.ListN.{drop}
 use borrow.Author.Tests.{leb-true, ltb-true}
 use Rattle.calendar.specs.Quarters.{quarterExists}
 use Rattle.journal.specs.Value.{storedRight}
-use Rattle.journal.specs.Entries.{Entry, pointIn, dayIn, quarterIn, readingsAt}
+use Rattle.journal.specs.Entries.{pointPlaces, Entry, pointIn, dayIn, quarterIn, readingsAt}
 use Rattle.journal.specs.Stored.{entryAt, entries}
 use Rattle.journal.specs.Damage.{entryRight, entriesRight, Right}
 use Rattle.journal.proofs.ShownLaws.{Rising}
 use Rattle.journal.proofs.Entries.{all4, parts, right-rising}
 use Rattle.journal.proofs.Back.{entries-snoc}
+use Rattle.values.specs.Values.{magnitudeMost}
 
 module _ (points K last : ℕ) where
   -- the first entries of a journal are right where more of them are
@@ -43,12 +44,12 @@ module _ (count : ℕ) (j : List ℕ) (r : Right (entries count j)) (i : ℕ) (h
   next-rising place = right-rising (r .points) (r .all .keptday) (r .all .last) place 0 0 (omega arith) _ next-right
 
   -- the next one is of one of 64 points, and its number is that of a reading
-  pub next-bounds : (entryAt j i .place < 64 * 2775900) × (entryAt j i .stored ≤ 99999999)
+  pub next-bounds : (entryAt j i .place < 64 * pointPlaces) × (entryAt j i .stored ≤ magnitudeMost)
   unfolding entryRight
   next-bounds =
       let e = entryAt j i in
       let a = right-last (r .points) (r .all .keptday) (r .all .last) 0 (entries i j) e next-right in
       let k = all4 (ltb (pointIn (e .place)) (r .points)) (leb (r .all .keptday) (dayIn (e .place))) (quarterExists (dayIn (e .place)) (quarterIn (e .place))) (storedRight (e .stored)) a in
       let p = ltb-true (pointIn (e .place)) (r .points) (k .0) in
-      let s = leb-true (e .stored) 99999999 (k .3) in
+      let s = leb-true (e .stored) magnitudeMost (k .3) in
       (omega (arith, r .all .few), s)

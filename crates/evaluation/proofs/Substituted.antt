@@ -12,7 +12,8 @@ use borrow.Author.Tests.{eq-eqb, ne-eqb}
 use Rattle.lists.proofs.Cases.{by-test}
 use Rattle.lists.proofs.Below.{below}
 use Rattle.journal.specs.Value.{Value}
-use Rattle.allocation.specs.Mean.{meanOf}
+use Rattle.values.specs.Values.{magnitudeMost}
+use Rattle.evaluation.specs.Mean.{meanOf}
 use Rattle.evaluation.specs.Substitutes.{existing, substitute, magnitudeFrom, fourWeeks}
 use Rattle.evaluation.specs.Working.{valueFor, numberAt, weekOf, weeksOf, magnitudeIn, Within, AllOf}
 use Rattle.evaluation.proofs.Means.{Small, small-for, mean-within}
@@ -46,12 +47,12 @@ module _ (table : List ℕ) (point status : ℕ) where
 
 -- a value's magnitude and a substitute are within, where the values are
 pub from-within : (status : ℕ) (value : Option Value) (week : ℕ → Option Value) → Small value → ((n : ℕ) → n < 5 → Small (week n))
-    → magnitudeFrom status value (map week fourWeeks) ≤ 99999999
+    → magnitudeFrom status value (map week fourWeeks) ≤ magnitudeMost
 from-within status none week h small = by-test (eqb status 0) (λ t. rw t (mean-within week small)) (λ f. rw f (omega arith))
 from-within status (some value) week h small = h
 
 -- so the magnitude of a point is within
-pub magnitude-within : (table : List ℕ) (point status : ℕ) → Within table → point < 64 → magnitudeIn table point status ≤ 99999999
+pub magnitude-within : (table : List ℕ) (point status : ℕ) → Within table → point < 64 → magnitudeIn table point status ≤ magnitudeMost
 magnitude-within table point status within h =
     let small : (week : ℕ) → week < 5 → Small (weekOf table point week) = λ week l. small-for (numberAt table point week) (within point week h l) in
     from-within status (weekOf table point 0) (weekOf table point) (small 0 (omega arith)) small

@@ -8,6 +8,7 @@ use lib.Dec.{leb}
 use lib.ListN.{length, set}
 use lib.Seq.{getD-set-same, getD-set-other}
 use borrow.Author.Tests.{le-leb, lt-leb}
+use Rattle.journal.specs.Entries.{pointPlaces}
 use Rattle.lists.proofs.Cases.{by-test}
 use Rattle.lists.proofs.Below.{and-late}
 use Rattle.evaluation.specs.Working.{isAt, TakenIn}
@@ -18,9 +19,9 @@ module _ (stamp place stored slot until : ℕ) (table : List ℕ) where
   pub taken-late : until < stamp → TakenIn stamp place stored slot until table table
   taken-late h point week p w = rw (lt-leb stamp until h)
 
-  module _ (h : slot < 2775900) where
+  module _ (h : slot < pointPlaces) where
     -- an entry of another quarter hour
-    pub taken-none : ((week : ℕ) → week < 5 → place % 2775900 ≤ slot → slot - place % 2775900 ≡ 700 * week → ⊥)
+    pub taken-none : ((week : ℕ) → week < 5 → place % pointPlaces ≤ slot → slot - place % pointPlaces ≡ 700 * week → ⊥)
         → TakenIn stamp place stored slot until table table
     taken-none none point week p w =
         by-test (isAt place slot point week)
@@ -29,7 +30,7 @@ module _ (stamp place stored slot until : ℕ) (table : List ℕ) where
 
     -- an entry that gives its number
     pub taken-here : (point week : ℕ) → stamp ≤ until → 5 * point + week < length table → week < 5
-        → place / 2775900 ≡ point → place % 2775900 ≤ slot → slot - place % 2775900 ≡ 700 * week
+        → place / pointPlaces ≡ point → place % pointPlaces ≤ slot → slot - place % pointPlaces ≡ 700 * week
         → TakenIn stamp place stored slot until table (set table (5 * point + week) (stored + 1))
     taken-here point week k fits w p l e point′ week′ p′ w′ =
         by-test (isAt place slot point′ week′)

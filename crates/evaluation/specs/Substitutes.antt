@@ -7,7 +7,7 @@ use lib.Dec.{eqb}
 use Rattle.journal.specs.Value.{Value}
 use Rattle.journal.specs.Order.{Reading}
 use Rattle.journal.specs.Readings.{shown, valueShown}
-use Rattle.allocation.specs.Mean.{meanOf}
+use Rattle.evaluation.specs.Mean.{meanOf}
 use Rattle.evaluation.specs.Earlier.{Slot, earlier}
 
 -- the magnitudes of the values that exist

@@ -1,19 +1,25 @@
 // The evaluation of a quarter hour as of a stamp: the readings of all points, those of the four earlier weeks included, are gathered from the
-// journal in a working table; missing readings get their substitutes; the magnitudes are allocated.
+// journal in a working table; missing readings get their substitutes; the magnitudes are allocated; the allocation is put into a result list.
 ghost use mathlib.Core.Path.{_≡_};
 ghost use mathlib.Core.Bool.{true};
 ghost use Prim.Native.Nat.{_*_, _≤_, _<_};
 ghost use lib.ListN.{length};
+ghost use Rattle.journal.specs.Entries.{pointPlaces};
+ghost use Rattle.lists.specs.Place.{placed};
 ghost use Rattle.calendar.specs.Quarters.{quarterExists};
+ghost use Rattle.registration.specs.Rules.{points, placeAt};
 ghost use Rattle.journal.specs.Stored.{entries};
 ghost use Rattle.journal.specs.Damage.{Right};
+ghost use Rattle.values.specs.Values.{magnitudeMost};
 ghost use Rattle.allocation.specs.Input.{Shareable};
-ghost use Rattle.allocation.specs.Mean.{meanOf};
-ghost use Rattle.allocation.specs.Result.{sizeOf};
-ghost use Rattle.allocation.specs.Working.{Allocated};
+ghost use Rattle.allocation.specs.Result.{pairsOf, allocationOf};
+ghost use Rattle.allocation.specs.Working.{allocationIn};
+ghost use Rattle.evaluation.specs.Mean.{nearest, meanOf};
 ghost use Rattle.evaluation.specs.Substitutes.{existing};
 ghost use Rattle.evaluation.specs.Evaluation.{magnitudesIn};
+ghost use Rattle.evaluation.specs.Layout.{pairsIn, sizeOf, resultOf, LaidOut, ResultPut};
 ghost use Rattle.evaluation.specs.Working.{weeksOf, magnitudeIn, Within, TakenIn, Gathered, AllOf};
+use allocation::Allocated;
 use registration::Registration;
 
 // The quarter hour itself and the four earlier weeks.
@@ -24,9 +30,19 @@ const WEEK_PLACES: u64 = 700;
 
 const EARLIER_PLACES: u64 = 4 * WEEK_PLACES;
 
+// The most numbers that the result of an undamaged registration has.
+pub const RESULT_MOST: usize = 359;
+
+// Where the remaining withdrawals and the remaining supplies begin in a result, which begins with the shares, and how many numbers it has.
+pub struct Layout {
+    pub withdrawals: usize,
+    pub supplies: usize,
+    pub size: usize,
+}
+
 // One entry of the pass: where it is of the quarter hour or of an earlier week, and not later than `until`, the table gets its magnitude plus one.
 fn take_in(table: &mut [u64], stamp: u64, place: u64, stored: u64, slot: u64, until: u64)
-    requires { ⌜ (length (now table) ≡ 320) × (place < 64 * 2775900) × (stored ≤ 99999999) × (slot < 2775900) ⌝ }
+    requires { ⌜ (length (now table) ≡ 320) × (place < 64 * pointPlaces) × (stored ≤ magnitudeMost) × (slot < pointPlaces) ⌝ }
     ensures { λ _. ⌜ TakenIn stamp place stored slot until (now (table .entry)) (now (table .exit)) ⌝ }
 {
     if stamp > until {
@@ -72,6 +88,21 @@ fn gather(journal: &[u64], count: usize, day: u64, quarter: u64, until: u64) -> 
     table
 }
 
+// The sum of values divided by their count, rounded to the nearest whole number, halves up; 0 where there is none.
+pub fn mean(sum: u64, count: u64) -> u64
+    ensures { λ r. ⌜ r ≡ nearest sum count ⌝ }
+{
+    if count == 0 {
+        return 0;
+    }
+    let whole = sum / count;
+    let rest = sum % count;
+    if rest < count - rest {
+        return whole;
+    }
+    whole + 1
+}
+
 // The mean of the values that a point has in the earlier weeks.
 fn mean_of_weeks(table: &[u64; 320], point: usize) -> u64
     requires { ⌜ Within (now table) × (point < 64) ⌝ }
@@ -88,7 +119,7 @@ fn mean_of_weeks(table: &[u64; 320], point: usize) -> u64
         }
         week += 1;
     }
-    allocation::mean(sum, count)
+    mean(sum, count)
 }
 
 // The magnitude of a point: its reading, or the substitute by its status.
@@ -120,6 +151,68 @@ fn magnitudes(table: &[u64; 320], statuses: [u8; 64], points: usize) -> [u64; 64
     all
 }
 
+// How many pairs a group has: each consumer with each producer that it names.
+fn pairs(registration: Registration) -> usize
+    requires { ⌜ points registration ≤ 64 ⌝ }
+    ensures { λ r. ⌜ (r ≡ pairsIn registration) × (r ≤ 16320) ⌝ }
+{
+    let counts = registration.counts;
+    let consumers = registration.consumers;
+    let mut pairs = 0;
+    let mut consumer = 0;
+    while consumer < consumers {
+        pairs += counts[consumer] as usize;
+        consumer += 1;
+    }
+    pairs
+}
+
+// The layout of a group's results.
+pub fn layout_of(registration: Registration) -> Layout
+    requires { ⌜ points registration ≤ 64 ⌝ }
+    ensures { λ r. ⌜ LaidOut registration r ⌝ }
+{
+    let withdrawals = pairs(registration);
+    let supplies = withdrawals + registration.consumers;
+    let size = supplies + registration.producers;
+    Layout {
+        withdrawals,
+        supplies,
+        size,
+    }
+}
+
+// Puts the pairs' shares at the front of a result list, consumers in order and priorities within.
+fn put_shares(out: &mut [u64], registration: Registration, shares: &[u64; 320])
+    requires { ⌜ Shareable registration × (pairsIn registration ≤ length (now out)) ⌝ }
+    ensures { λ _. ⌜ now (out .exit) ≡ placed 0 (pairsOf registration (placeAt (now (shares .entry)))) (now (out .entry)) ⌝ }
+{
+    let counts = registration.counts;
+    let consumers = registration.consumers;
+    let mut at = 0;
+    let mut consumer = 0;
+    while consumer < consumers {
+        let count = counts[consumer] as usize;
+        at = lists::put_part(out, at, shares, 5 * consumer, count);
+        consumer += 1;
+    }
+}
+
+// Puts each part of an allocation at its place in a result list, whose later numbers stay.
+fn put_allocation(out: &mut [u64], registration: Registration, allocated: Allocated)
+    requires { ⌜ Shareable registration × (sizeOf registration ≤ length (now out)) ⌝ }
+    ensures { λ _. ⌜ now (out .exit) ≡ placed 0 (resultOf (allocationIn registration allocated)) (now (out .entry)) ⌝ }
+{
+    let producers = registration.producers;
+    let consumers = registration.consumers;
+    let shares = allocated.shares;
+    let left = allocated.left;
+    let layout = layout_of(registration);
+    put_shares(out, registration, &shares);
+    lists::put_part(out, layout.withdrawals, &left, producers, consumers);
+    lists::put_part(out, layout.supplies, &left, 0, producers);
+}
+
 // The result of a quarter hour as of a stamp, put into the result list, whose later numbers stay. Returns the round count.
 pub fn evaluate(
     registration: Registration,
@@ -131,7 +224,7 @@ pub fn evaluate(
     result: &mut [u64],
 ) -> usize
     requires { ⌜ Shareable registration × (quarterExists day quarter ≡ true) × (3 * count ≤ length (now journal)) × Right (entries count (now journal)) × (sizeOf registration ≤ length (now result)) ⌝ }
-    ensures { λ r. ⌜ Allocated registration (magnitudesIn registration (entries count (now (journal .entry))) day quarter until) (now (result .entry)) (now (result .exit)) r ⌝ }
+    ensures { λ r. ⌜ ResultPut (allocationOf registration (magnitudesIn registration (entries count (now (journal .entry))) day quarter until)) (now (result .entry)) (now (result .exit)) r ⌝ }
 {
     let table = gather(journal, count, day, quarter, until);
     let statuses = registration.statuses;
@@ -140,5 +233,7 @@ pub fn evaluate(
         statuses,
         registration.producers + registration.consumers,
     );
-    allocation::allocate(registration, all, result)
+    let allocated = allocation::allocate(registration, all);
+    put_allocation(result, registration, allocated);
+    allocated.rounds
 }

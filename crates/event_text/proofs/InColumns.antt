@@ -14,7 +14,9 @@ use Rattle.columns.specs.Fields.{fitting}
 use Rattle.registration.specs.declared.Registration.{Registration}
 use Rattle.allocation.specs.Input.{Shareable}
 use Rattle.allocation.proofs.Shareable.{few-points, pair-of}
-use Rattle.allocation.proofs.ResultBounds.{ResultWithin}
+use Rattle.evaluation.specs.Layout.{Withdrawals, Supplies, pairsBefore, beginOf}
+use Rattle.evaluation.proofs.Parts.{shares-there}
+use Rattle.evaluation.proofs.ResultBounds.{ResultWithin}
 use Rattle.service.specs.Group.{Submission, Clear, Evaluation}
 use Rattle.service.specs.Record.{callOn}
 use Rattle.service.proofs.Cores.{evaluation-asked}
@@ -70,9 +72,9 @@ result-fits r numbers s within =
     record {
       shares = λ consumer priority h l.
           fits-S (consumer + 1) _ _ (omega (arith, few-points s)) (omega (arith, few-points s, pair-of s consumer priority h l .source-most))
-          (omega (arith, within .shares consumer priority h l));
-      withdrawals = λ consumer h. fits-remaining (consumer + 1) _ (omega (arith, few-points s)) (omega (arith, within .withdrawals consumer h));
-      supplies = λ producer h. fits-remaining (producer + 1) _ (omega (arith, few-points s)) (omega (arith, within .supplies producer h));
+          (omega (arith, within (pairsBefore r consumer + priority) (omega (arith, shares-there r consumer h))));
+      withdrawals = λ consumer h. fits-remaining (consumer + 1) _ (omega (arith, few-points s)) (omega (arith, within (beginOf r Withdrawals + consumer) (omega arith)));
+      supplies = λ producer h. fits-remaining (producer + 1) _ (omega (arith, few-points s)) (omega (arith, within (beginOf r Supplies + producer) (omega arith)));
     }
 
 -- every call, whatever the record, on a journal of the program's size

@@ -12,7 +12,8 @@ use Rattle.registration.specs.Rules.{countAt, countRight, consumerRight}
 use Rattle.registration.specs.Damage.{isDamaged}
 use Rattle.registration.proofs.Damage.{undamaged-parts, point-bounds}
 use Rattle.registration.proofs.Bounds.{count-bounds}
-use Rattle.allocation.specs.Result.{pairsIn, sizeOf}
+use Rattle.evaluation.specs.Layout.{sizeOf, resultMost}
+use Rattle.evaluation.proofs.Laws.{result-within-most}
 use Rattle.service.specs.declared.Service.{Service}
 use Rattle.service.specs.declared.Evaluated.{Evaluated}
 use Rattle.service.specs.Group.{Group, Evaluation, Seen, After}
@@ -29,8 +30,7 @@ use Rattle.event_writer.specs.Answers.{bytesOfResult}
 pub record Small (r : Registration) : Type 0 where
   pub points : r .producers + r .consumers ≤ 64
   pub counts : (consumer : ℕ) → consumer < r .consumers → countAt r consumer ≤ 5
-  pub pairs : pairsIn r ≤ 315
-  pub size : sizeOf r ≤ 379
+  pub size : sizeOf r ≤ resultMost
   pub bytes : bytesOfResult r ≤ 7324
 
 -- at most 64 points, of which one at least is a producer: at most 63 consumers, each with at most 5 producers
@@ -44,8 +44,7 @@ undamaged-small r e =
     record {
       points = bounds .2;
       counts = each;
-      pairs = omega (arith, sum, bounds .0, bounds .2);
-      size = omega (arith, sum, bounds .0, bounds .2);
+      size = result-within-most r e;
       bytes = omega (arith, sum, bounds .0, bounds .2);
     }
 

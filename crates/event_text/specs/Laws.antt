@@ -8,12 +8,11 @@ use mathlib.Core.Option.{Option, none, some}
 use lib.ListN.{length, getD, replicate, drop}
 use Rattle.answers.specs.declared.Verdict.the-variants.{Accepted}
 use Rattle.answers.specs.Numbers.{answerOf}
-use Rattle.lists.specs.Below.{sumBelow}
 use Rattle.columns.specs.Fields.{fitting}
 use Rattle.lines.specs.Line.{firstLine, afterLine}
 use Rattle.registration.specs.declared.Registration.{Registration}
 use Rattle.registration.specs.Rules.{countAt, sourceAt}
-use Rattle.allocation.specs.Result.{pairsIn}
+use Rattle.evaluation.specs.Layout.{Withdrawals, Supplies, pairsBefore, lengthOf, beginOf}
 use Rattle.service.specs.declared.Service.{Service}
 use Rattle.service.specs.Group.{Call, Submission, Clear, Evaluation, Seen}
 use Rattle.service.specs.Record.{callOn}
@@ -88,11 +87,11 @@ PrintsItsCalls =
 -- each number of a result fits its column
 pub record ResultFits (r : Registration) (numbers : List ℕ) : Type 0 where
   pub shares : (consumer priority : ℕ) → consumer < r .consumers → priority < countAt r consumer
-      → fitting widthsS ((consumer + 1) ∷ sourceAt r consumer priority ∷ getD numbers (sumBelow (countAt r) consumer + priority) 0 ∷ []) ≡ true
-  pub withdrawals : (consumer : ℕ) → consumer < r .consumers
-      → fitting widthsOfRemaining ((consumer + 1) ∷ getD numbers (pairsIn r + consumer) 0 ∷ []) ≡ true
-  pub supplies : (producer : ℕ) → producer < r .producers
-      → fitting widthsOfRemaining ((producer + 1) ∷ getD numbers (pairsIn r + r .consumers + producer) 0 ∷ []) ≡ true
+      → fitting widthsS ((consumer + 1) ∷ sourceAt r consumer priority ∷ getD numbers (pairsBefore r consumer + priority) 0 ∷ []) ≡ true
+  pub withdrawals : (consumer : ℕ) → consumer < lengthOf r Withdrawals
+      → fitting widthsOfRemaining ((consumer + 1) ∷ getD numbers (beginOf r Withdrawals + consumer) 0 ∷ []) ≡ true
+  pub supplies : (producer : ℕ) → producer < lengthOf r Supplies
+      → fitting widthsOfRemaining ((producer + 1) ∷ getD numbers (beginOf r Supplies + producer) 0 ∷ []) ≡ true
 
 -- each number of the answer to a call fits its column
 abbrev pub CallFits : Registration → Call → Seen → Type 0

@@ -12,6 +12,7 @@ use Rattle.calendar.specs.declared.Day.{Day}
 use Rattle.calendar.specs.declared.Day.the-variants.{Is, Missing}
 use Rattle.calendar.specs.Dates.{dayOf}
 use Rattle.registration.specs.declared.Registration.{Registration}
+use Rattle.evaluation.specs.Layout.{resultMost}
 use Rattle.values.specs.declared.Measurement.{Measurement}
 use Rattle.service.specs.declared.Service.{Service}
 use Rattle.service.specs.Group.{Call, Seen}
@@ -22,11 +23,7 @@ use Rattle.event_reader.specs.declared.Event.the-variants.{Submission, Clear, E
 use Rattle.event_reader.specs.Events.{eventIn}
 use Rattle.event_writer.specs.Answers.{lineA, lineR, linesOfResult}
 
--- the most numbers that a result has: 5 for each of 63 consumers, and one for each of 64 points
-abbrev pub resultMost : ℕ
-resultMost = 379
-
--- the list that an evaluation is lent for its result
+-- the list that an evaluation is lent for its result: as many zeros as the largest result has numbers
 abbrev pub resultList : List ℕ
 resultList = replicate resultMost 0
 

@@ -18,9 +18,6 @@ use service::Service;
 use service::State;
 use values::Measurement;
 
-// The most numbers that a result has: 5 for each of 63 consumers, and one for each of 64 points.
-const RESULT_MOST: usize = 379;
-
 // Puts the A line of a refusal to the front of a buffer.
 pub fn put_refusal(out: &mut [u8], refusal: Refusal) -> usize
     requires { ⌜ 19 ≤ length (now out) ⌝ }
@@ -120,7 +117,7 @@ pub fn evaluation(
         let bytes = event_writer::put_rounds(out, 0, refusal.number(), 0);
         return answered(state, bytes);
     };
-    let mut numbers = [0; RESULT_MOST];
+    let mut numbers = [0; evaluation::RESULT_MOST];
     let evaluated = service.evaluate(journal, day, quarter, until, &mut numbers);
     let verdict = evaluated.verdict;
     let at = event_writer::put_rounds(out, 0, verdict.answer(), evaluated.rounds as u64);

@@ -1,5 +1,5 @@
 -- How long the lines of answers are, and the lines of a result as pieces that are put one after the other. Assumes nothing.
-use Prim.Native.Nat.{ℕ, _+_, _*_, _≤_, _<_}
+use Prim.Native.Nat.{ℕ, _+_, _*_, _≤_}
 use mathlib.Core.Path.{_≡_, refl, _∙_}
 use mathlib.Core.List.{List}
 use native.Mathlib.Omega.{arith}
@@ -7,15 +7,15 @@ use lib.ListN.{length, getD, length-append}
 use Rattle.lists.specs.Below.{sumBelow}
 use Rattle.lists.specs.Place.{Put}
 use Rattle.lists.specs.Tables.{joined}
-use Rattle.lists.proofs.Below.{sum-next}
-use Rattle.lists.proofs.Sums.{sum-more, sum-times}
+use Rattle.lists.proofs.Sums.{sum-times}
 use Rattle.lists.proofs.TableLaws.{length-joined, length-even}
 use Rattle.lists.proofs.Pieces.{put-on}
 use Rattle.columns.specs.Fields.{total}
 use Rattle.lines.proofs.Laws.{length-line}
 use Rattle.registration.specs.declared.Registration.{Registration}
 use Rattle.registration.specs.Rules.{placeAt, countAt, sourceAt}
-use Rattle.allocation.specs.Result.{pairsIn}
+use Rattle.evaluation.specs.declared.Layout.{Layout}
+use Rattle.evaluation.specs.Layout.{pairsBefore, pairsIn, LaidOut}
 use Rattle.event_writer.specs.Answers.{letterA, letterR, letterS, letterU, letterV, widthsA, widthsR, widthsS, widthsOfRemaining, lineA, lineR, lineS, lineOfRemaining, linesOfConsumer, linesS, linesOfRemaining, linesOfResult, bytesOfResult}
 
 -- ---- the lines as pieces
@@ -75,7 +75,7 @@ pub length-of-shares : (r : Registration) (numbers : List ℕ) → length (lines
 length-of-shares r numbers =
     rw consumers-joined
     (length-joined _ (λ consumer. 20 * countAt r consumer) (r .consumers)
-    (λ consumer. length-of-consumer (sourceAt r consumer) consumer (countAt r consumer) (sumBelow (countAt r) consumer) numbers))
+    (λ consumer. length-of-consumer (sourceAt r consumer) consumer (countAt r consumer) (pairsBefore r consumer) numbers))
     ∙ sum-times 20 (countAt r) (r .consumers)
 
 pub length-of-remaining : (letter at count : ℕ) (numbers : List ℕ) → length (linesOfRemaining letter at count numbers) ≡ 16 * count
@@ -89,11 +89,6 @@ length-of-result r numbers =
 
 -- ---- lines put one after the other
 
--- the shares of a consumer are among those of all consumers
-pub shares-there : (r : Registration) (consumer : ℕ) → consumer < r .consumers → sumBelow (countAt r) consumer + countAt r consumer ≤ pairsIn r
-shares-there r consumer h =
-    omega (arith, sum-next (countAt r) consumer, sum-more (countAt r) (consumer + 1) (r .consumers) (omega arith))
-
 -- where lines that were put end
 pub shares-end : (r : Registration) (numbers : List ℕ) {at next : ℕ} {before after : List ℕ} → Put at (linesS r numbers) before after next
     → next ≡ at + 20 * pairsIn r
@@ -104,11 +99,11 @@ pub remaining-end : (letter from count : ℕ) (numbers : List ℕ) {at next : �
 remaining-end letter from count numbers p = p .end ∙ rw length-of-remaining
 
 -- S, U and V lines in turn make the result
-pub result-put : (r : Registration) (numbers : List ℕ) (pairs : ℕ) {start first second end : ℕ} {before shares withdrawals after : List ℕ} → pairs ≡ pairsIn r
-    → first ≤ length before → second ≤ length shares
+pub result-put : (r : Registration) (numbers : List ℕ) {layout : Layout} {start first second end : ℕ} {before shares withdrawals after : List ℕ}
+    → LaidOut r layout → first ≤ length before → second ≤ length shares
     → Put start (linesS r numbers) before shares first
-    → Put first (linesOfRemaining letterU pairs (r .consumers) numbers) shares withdrawals second
-    → Put second (linesOfRemaining letterV (pairs + r .consumers) (r .producers) numbers) withdrawals after end
+    → Put first (linesOfRemaining letterU (layout .withdrawals) (r .consumers) numbers) shares withdrawals second
+    → Put second (linesOfRemaining letterV (layout .supplies) (r .producers) numbers) withdrawals after end
     → Put start (linesOfResult r numbers) before after end
 unfolding linesOfResult
-result-put r numbers pairs e l m p q s = put-on l p (put-on m (rw e at q) (rw e at s))
+result-put r numbers laid l m p q s = put-on l p (put-on m (rw (laid .withdrawals) at q) (rw (laid .supplies) at s))

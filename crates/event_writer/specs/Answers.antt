@@ -2,12 +2,11 @@
 use Prim.Native.Nat.{ℕ, _+_, _*_}
 use mathlib.Core.List.{List, [], _∷_, _++_}
 use lib.ListN.{getD}
-use Rattle.lists.specs.Below.{sumBelow}
 use Rattle.lists.specs.Tables.{joined}
 use Rattle.lines.specs.Lines.{lineOf}
 use Rattle.registration.specs.declared.Registration.{Registration}
 use Rattle.registration.specs.Rules.{countAt, sourceAt}
-use Rattle.allocation.specs.Result.{pairsIn}
+use Rattle.evaluation.specs.Layout.{Shares, Withdrawals, Supplies, pairsBefore, lengthOf, beginOf}
 
 -- the letter A
 abbrev pub letterA : ℕ
@@ -69,19 +68,19 @@ linesOfConsumer source consumer count at numbers =
 -- the S lines: consumers in order, priorities within
 unfoldable pub linesS : Registration → (numbers : List ℕ) → List ℕ
 linesS r numbers =
-    joined (λ consumer. linesOfConsumer (sourceAt r consumer) consumer (countAt r consumer) (sumBelow (countAt r) consumer) numbers) (r .consumers)
+    joined (λ consumer. linesOfConsumer (sourceAt r consumer) consumer (countAt r consumer) (pairsBefore r consumer) numbers) (r .consumers)
 
 -- the U or V lines: so many numbers of the result list from a place on
 unfoldable pub linesOfRemaining : (letter at count : ℕ) → (numbers : List ℕ) → List ℕ
 linesOfRemaining letter at count numbers = joined (λ point. lineOfRemaining letter point (getD numbers (at + point) 0)) count
 
--- a result list, line by line: pair shares, remaining withdrawals, remaining supplies
+-- a result list, line by line and part by part: pair shares, remaining withdrawals, remaining supplies
 unfoldable pub linesOfResult : Registration → (numbers : List ℕ) → List ℕ
 linesOfResult r numbers =
     linesS r numbers
-    ++ (linesOfRemaining letterU (pairsIn r) (r .consumers) numbers
-    ++ linesOfRemaining letterV (pairsIn r + r .consumers) (r .producers) numbers)
+    ++ (linesOfRemaining letterU (beginOf r Withdrawals) (lengthOf r Withdrawals) numbers
+    ++ linesOfRemaining letterV (beginOf r Supplies) (lengthOf r Supplies) numbers)
 
--- how many bytes these lines take: 20 for each pair, 16 for each point
+-- how many bytes these lines take: 20 for each share, 16 for each remaining withdrawal and supply
 abbrev pub bytesOfResult : Registration → ℕ
-bytesOfResult r = 20 * pairsIn r + 16 * (r .consumers + r .producers)
+bytesOfResult r = 20 * lengthOf r Shares + 16 * (lengthOf r Withdrawals + lengthOf r Supplies)

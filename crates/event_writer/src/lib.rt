@@ -1,10 +1,9 @@
 // The lines of answers, written into a lent buffer: A and R with the answer of a call; S, U and V with the result of an evaluation.
-ghost use mathlib.Core.Path.{_≡_};
 ghost use Prim.Native.Nat.{ℕ, _+_, _*_, _≤_, _<_};
 ghost use lib.ListN.{length};
 ghost use Rattle.lists.specs.Place.{Put};
 ghost use Rattle.registration.specs.Rules.{placeAt, countAt};
-ghost use Rattle.allocation.specs.Result.{pairsIn, sizeOf};
+ghost use Rattle.evaluation.specs.Layout.{pairsIn, sizeOf};
 ghost use Rattle.event_writer.specs.Answers.{lineA, lineR, linesOfConsumer, linesS, linesOfRemaining, linesOfResult, bytesOfResult};
 use registration::Registration;
 
@@ -107,9 +106,22 @@ pub fn put_result(
 {
     let consumers = registration.consumers;
     let producers = registration.producers;
-    let pairs = allocation::pairs(registration);
+    let layout = evaluation::layout_of(registration);
     let after_shares = put_shares(out, start, registration, numbers);
-    let after_withdrawals = put_remaining(out, after_shares, b'U', numbers, pairs, consumers);
-    let supplies = pairs + consumers;
-    put_remaining(out, after_withdrawals, b'V', numbers, supplies, producers)
+    let after_withdrawals = put_remaining(
+        out,
+        after_shares,
+        b'U',
+        numbers,
+        layout.withdrawals,
+        consumers,
+    );
+    put_remaining(
+        out,
+        after_withdrawals,
+        b'V',
+        numbers,
+        layout.supplies,
+        producers,
+    )
 }

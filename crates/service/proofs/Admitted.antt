@@ -15,7 +15,7 @@ use Rattle.answers.proofs.Refusals.{passed}
 use Rattle.lists.proofs.Cases.{by-test}
 use Rattle.values.specs.declared.Measurement.{Measurement}
 use Rattle.calendar.specs.Quarters.{quarterExists}
-use Rattle.allocation.specs.Result.{sizeOf}
+use Rattle.evaluation.specs.Layout.{sizeOf}
 use Rattle.points.specs.Points.{indexOf}
 use Rattle.service.specs.Group.{Group, rollOf}
 use Rattle.service.specs.Refusals.{stampMost, repeats, earliest, submissionVerdict, clearVerdict, evaluationVerdict}

@@ -14,8 +14,8 @@ use Rattle.values.specs.declared.Measurement.{Measurement}
 use Rattle.calendar.specs.Quarters.{quarterExists}
 use Rattle.registration.proofs.Damage.{undamaged-parts}
 use Rattle.allocation.specs.Input.{Shareable}
-use Rattle.allocation.specs.Result.{sizeOf}
-use Rattle.allocation.specs.Working.{Allocated}
+use Rattle.evaluation.specs.Layout.{sizeOf, ResultPut}
+use Rattle.allocation.specs.Result.{allocationOf}
 use Rattle.allocation.proofs.Laws.{undamaged-is-shareable}
 use Rattle.evaluation.specs.Evaluation.{magnitudesIn}
 use Rattle.journal.specs.Damage.{Right}
@@ -170,7 +170,7 @@ module _ (s : Service) (j : List ℕ) (day quarter T : ℕ) (lent : List ℕ) wh
         (undamaged-is-shareable _ (k .registered), m .exists, fits-of _ _ _ k, right-of _ _ (few-points _ _ k) k, m .long)
 
     pub evaluates-accepted : (verdict : Verdict) (rounds : ℕ) (lent′ : List ℕ) → verdict ≡ Accepted
-        → Allocated (s .registration) (magnitudesIn (s .registration) (entries (s .state .numbers .entries) j) day quarter T) lent lent′ rounds
+        → ResultPut (allocationOf (s .registration) (magnitudesIn (s .registration) (entries (s .state .numbers .entries) j) day quarter T)) lent lent′ rounds
         → Evaluates s j day quarter T lent (record { verdict = verdict; rounds = rounds }) lent′
     unfolding callOn step evaluated
     evaluates-accepted verdict rounds lent′ q m =

@@ -16,7 +16,7 @@ use Rattle.journal.specs.Readings.{shown, stampOf}
 use Rattle.journal.specs.Laws.{ShowsNewest}
 use Rattle.journal.proofs.Laws.{shown-is-newest}
 use Rattle.allocation.proofs.Laws.{undamaged-is-shareable}
-use Rattle.allocation.proofs.ResultBounds.{ResultWithin}
+use Rattle.evaluation.proofs.ResultBounds.{ResultWithin}
 use Rattle.evaluation.proofs.Greatest.{readings-small, evaluation-within, rounds-few}
 use Rattle.service.specs.declared.Service.{Service}
 use Rattle.service.specs.Group.{Group, Submission, Clear, Evaluation, After, rollOf, placeFor, readingsOf, readingsFor}

@@ -12,7 +12,7 @@ use Rattle.answers.proofs.Refusals.{refusals}
 use Rattle.values.specs.declared.Measurement.{Measurement}
 use Rattle.calendar.specs.Dates.{isDay}
 use Rattle.calendar.specs.Quarters.{quarterExists}
-use Rattle.allocation.specs.Result.{sizeOf}
+use Rattle.evaluation.specs.Layout.{sizeOf}
 use Rattle.points.specs.Points.{indexOf, has, signSuits}
 use Rattle.service.specs.Group.{Group, rollOf}
 use Rattle.service.specs.Refusals.{damaged, repeats, full, earliest, stampMost, submissionVerdict, clearVerdict, evaluationVerdict}

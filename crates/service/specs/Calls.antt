@@ -6,7 +6,7 @@ use lib.ListN.{length}
 use Rattle.answers.specs.declared.Verdict.{Verdict}
 use Rattle.answers.specs.declared.Verdict.the-variants.{Accepted, Refused}
 use Rattle.lists.specs.Place.{placed}
-use Rattle.allocation.specs.Result.{numbersOf}
+use Rattle.evaluation.specs.Layout.{resultOf}
 use Rattle.journal.specs.Value.{valueOf, storedOf}
 use Rattle.journal.specs.Readings.{shown, stampOf}
 use Rattle.journal.specs.Entries.{Entry, keep}
@@ -71,7 +71,7 @@ unfoldable pub evaluated : (last : ℕ) → Group → (day quarter T : ℕ) → 
 evaluated last G day quarter T lent =
     let result = evaluationOf (G .registration) (readingsOf G) day quarter T in
     record {
-      seen = record { verdict = Accepted; number = result .rounds; result = placed 0 (numbersOf result) lent };
+      seen = record { verdict = Accepted; number = result .rounds; result = placed 0 (resultOf result) lent };
       last = last;
       group = G;
     }

@@ -13,7 +13,7 @@ use Rattle.answers.specs.Order.{refuse_if_else_}
 use Rattle.calendar.specs.Dates.{lastDay, isDay}
 use Rattle.calendar.specs.Quarters.{quarterExists}
 use Rattle.registration.specs.Damage.{isDamaged}
-use Rattle.allocation.specs.Result.{sizeOf}
+use Rattle.evaluation.specs.Layout.{sizeOf}
 use Rattle.journal.specs.Value.{valueOf}
 use Rattle.journal.specs.Readings.{shown, sameAs}
 use Rattle.journal.specs.Damage.{entriesRight}

@@ -224,7 +224,8 @@ pub fn evaluation_verdict(
     if last < until {
         return Verdict::Refused(Refusal::StampOutside);
     }
-    if lent.len() < allocation::size(registration) {
+    let layout = evaluation::layout_of(registration);
+    if lent.len() < layout.size {
         return Verdict::Refused(Refusal::TooShort);
     }
     Verdict::Accepted

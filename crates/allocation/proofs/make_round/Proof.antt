@@ -8,6 +8,7 @@ use lib.ListN.{length, getD}
 use Rattle.registration.specs.declared.Registration.{Registration}
 use Rattle.registration.specs.Rules.{countAt, sourceAt, keyAt}
 use Rattle.registration.proofs.Bounds.{PairBounds}
+use Rattle.values.specs.Values.{magnitudeMost}
 use Rattle.allocation.specs.Input.{Shareable, Magnitudes}
 use Rattle.allocation.specs.Rounds.{leftAt}
 use Rattle.allocation.specs.Working.{PairsWithin}
@@ -63,7 +64,7 @@ pair c = pair-of (asked c .0) (consumer-of c) (c .before .loop2 .priority) (c .b
 producer-of-64 : (c : In) → sourceAt (group c) (consumer-of c) (c .before .loop2 .priority) - 1 < 64
 producer-of-64 c = omega (arith, pair c .source-least, pair c .source-most, few-points (asked c .0))
 
-supply-most : (c : In) → getD (c .before .before .before .before .before .before .before .before .args .t2) (sourceAt (group c) (consumer-of c) (c .before .loop2 .priority) - 1) 0 ≤ 99999999
+supply-most : (c : In) → getD (c .before .before .before .before .before .before .before .before .args .t2) (sourceAt (group c) (consumer-of c) (c .before .loop2 .priority) - 1) 0 ≤ magnitudeMost
 supply-most c = asked c .1 _ (omega (arith, pair c .source-least, pair c .source-most))
 
 sums-size : (c : In) → length (c .before .loop2 .shares) ≡ 320
@@ -79,9 +80,9 @@ share-is c =
     let i = c .before in
     share-here _ _ _ (i .before .loop2 .inv .1) (c .share-of .ensures)
 
-share-most : (c : Shared) → c .share-of .result ≤ 99999999
+share-most : (c : Shared) → c .share-of .result ≤ magnitudeMost
 share-most c =
-    rw (c .share-of .ensures) (le-trans (min-le-right _ _) (offer-small _ _ 99999999 (pair (c .before) .key-most) (supply-most (c .before))))
+    rw (c .share-of .ensures) (le-trans (min-le-right _ _) (offer-small _ _ magnitudeMost (pair (c .before) .key-most) (supply-most (c .before))))
 
 step : (c : In) → let n = c .before .loop2 .priority in
     Step (group c .counts) (group c .sources) (group c .keys) (c .before .before .before .before .before .before .before .before .args .t2) (group c .producers) (group c .consumers)

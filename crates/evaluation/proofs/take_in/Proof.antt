@@ -4,6 +4,7 @@ use borrow.Author.Needs.{needs}
 use native.Mathlib.Omega.{arith}
 use Prim.Native.Nat.{_-_, _/_, _%_}
 use mathlib.Core.Path.{refl}
+use Rattle.journal.specs.Entries.{pointPlaces}
 use Rattle.evaluation.proofs.Taken.{taken-late, taken-none, taken-here}
 use Rattle.evaluation.proofs.take_in.Statement.{statement}
 use Rattle.evaluation.proofs.take_in.Tie as tie
@@ -49,8 +50,8 @@ same-length c = search needs
 returns-5 : tie.Need-returns-5
 returns-5 c =
     let a = c .before .before .before .before .args in
-    let back = a .slot - a .place % 2775900 in
-    taken-here (a .stamp) (a .place) (a .stored) (a .slot) (a .until) (a .table .now) (c .before .before .before .before .pre .3) (a .place / 2775900) (back / 700) (omega arith) (omega arith) (omega arith) refl (omega arith) (omega arith)
+    let back = a .slot - a .place % pointPlaces in
+    taken-here (a .stamp) (a .place) (a .stored) (a .slot) (a .until) (a .table .now) (c .before .before .before .before .pre .3) (a .place / pointPlaces) (back / 700) (omega arith) (omega arith) (omega arith) refl (omega arith) (omega arith)
 
 pub take-in-spec : {M : Type 1} → statement M
 take-in-spec =

@@ -7,7 +7,8 @@ use lib.ListN.{getD}
 use Rattle.lists.specs.Below.{sumBelow}
 use Rattle.lists.proofs.Below.{sum-none, sum-next}
 use Rattle.lists.proofs.Pieces.{Pieces, no-pieces, next-fits, one-more, all-put}
-use Rattle.event_writer.proofs.Lengths.{consumerLines, consumers-joined, length-of-consumer, length-of-shares, shares-there}
+use Rattle.evaluation.proofs.Parts.{shares-there}
+use Rattle.event_writer.proofs.Lengths.{consumerLines, consumers-joined, length-of-consumer, length-of-shares}
 use Rattle.event_writer.proofs.put_shares.Statement.{statement}
 use Rattle.event_writer.proofs.put_shares.Tie as tie
 

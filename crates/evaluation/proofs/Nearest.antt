@@ -4,7 +4,7 @@ use mathlib.Core.Path.{_≡_, _∙_}
 use native.Mathlib.Nat.{mul-comm, mul-left-comm, add-mul, div-add-mod, mod-lt, div-eq-of-lt-le, mul-le-mul}
 use native.Mathlib.Omega.{arith}
 use borrow.Author.Tests.{ne-eqb}
-use Rattle.allocation.specs.Mean.{nearest}
+use Rattle.evaluation.specs.Mean.{nearest}
 
 -- twice a product, its factors in another order
 doubled : (q c : ℕ) → q * (2 * c) ≡ 2 * (c * q)

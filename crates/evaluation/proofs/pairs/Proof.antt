@@ -1,4 +1,4 @@
--- `allocation::pairs` meets its contract: the pairs of the consumers passed are counted. Assumes nothing.
+-- `evaluation::pairs` meets its contract: the pairs of the consumers passed are counted. Assumes nothing.
 use borrow.Author.Needs.{needs}
 use native.Mathlib.Omega.{arith}
 use Prim.Native.Nat.{ℕ, _-_, _*_, _≤_, _<_}
@@ -9,8 +9,8 @@ use mir.Val.{Fits}
 use lib.ListN.{getD}
 use Rattle.lists.specs.Below.{sumBelow}
 use Rattle.lists.proofs.Below.{sum-none, sum-next}
-use Rattle.allocation.proofs.pairs.Statement.{statement}
-use Rattle.allocation.proofs.pairs.Tie as tie
+use Rattle.evaluation.proofs.pairs.Statement.{statement}
+use Rattle.evaluation.proofs.pairs.Tie as tie
 
 abbrev Inv-loop : tie.InvT-loop
 Inv-loop counts consumers pairs₀ consumer₀ pairs consumer =

@@ -1,4 +1,4 @@
--- `allocation::put_shares` meets its contract: the sums of the consumers passed have been put. Assumes nothing.
+-- `evaluation::put_shares` meets its contract: the shares of the consumers passed have been put. Assumes nothing.
 use borrow.Author.Needs.{needs}
 use native.Mathlib.Omega.{arith}
 use Prim.Native.Nat.{ℕ, _-_, _<_}
@@ -9,16 +9,17 @@ use Rattle.lists.specs.Tables.{table}
 use Rattle.lists.proofs.Pieces.{Pieces, no-pieces, next-fits, one-more, all-put}
 use Rattle.lists.proofs.TableLaws.{length-table}
 use Rattle.registration.specs.Rules.{placeAt}
+use Rattle.allocation.proofs.Laws.{pairs-length}
 use Rattle.allocation.proofs.Shareable.{few-points, count-most}
-use Rattle.allocation.proofs.put_shares.Statement.{statement}
-use Rattle.allocation.proofs.put_shares.Tie as tie
+use Rattle.evaluation.proofs.put_shares.Statement.{statement}
+use Rattle.evaluation.proofs.put_shares.Tie as tie
 
--- the piece of a turn: a consumer's sums
-abbrev sums : (shares counts : List ℕ) → ℕ → List ℕ
-sums shares counts consumer = table (placeAt shares consumer) (getD counts consumer 0)
+-- the piece of a turn: a consumer's shares
+abbrev sharesOf : (shares counts : List ℕ) → ℕ → List ℕ
+sharesOf shares counts consumer = table (placeAt shares consumer) (getD counts consumer 0)
 
 abbrev Inv-loop : tie.InvT-loop
-Inv-loop out₀ shares counts consumers at₀ consumer₀ out at consumer = Pieces (sums shares counts) consumers 0 consumer out₀ out at
+Inv-loop out₀ shares counts consumers at₀ consumer₀ out at consumer = Pieces (sharesOf shares counts) consumers 0 consumer out₀ out at
 
 abbrev μ-loop : tie.MeasureT-loop
 μ-loop out₀ shares counts consumers at₀ consumer₀ out at consumer = consumers - consumer
@@ -32,7 +33,8 @@ one-of-64 c = omega (arith, few-points (c .before .before .before .before .pre .
 loop-holds : tie.Need-loop-holds Inv-loop μ-loop
 loop-holds c =
     let a = c .before .before .args in
-    no-pieces {piece = sums (a .shares .now) (a .registration .counts)} {count = a .registration .consumers} {start = 0} (omega (arith, c .before .before .pre .1))
+    no-pieces {piece = sharesOf (a .shares .now) (a .registration .counts)} {count = a .registration .consumers} {start = 0}
+    (omega (arith, c .before .before .pre .1, pairs-length (a .registration) (placeAt (a .shares .now))))
 
 array-read-count : tie.Need-array-read-count Inv-loop μ-loop
 array-read-count c = one-of-64 c
@@ -69,7 +71,7 @@ same-length : tie.Need-same-length Inv-loop μ-loop
 same-length c = c .before .loop .inv .same
 
 returns : tie.Need-returns Inv-loop μ-loop
-returns c = all-put (c .before .loop .inv) (c .loop-test .left)
+returns c = all-put (c .before .loop .inv) (c .loop-test .left) .list
 
 pub put-shares-spec : {M : Type 1} → statement M
 put-shares-spec =

@@ -1,0 +1,80 @@
+-- The parts of a result: how many numbers they have, where they stand in a list that the result is put into, and that parts put in turn,
+-- each at its place, are the result. Assumes nothing.
+use Prim.Native.Nat.{ℕ, _+_, _≤_, _<_}
+use mathlib.Core.Path.{_≡_, refl}
+use mathlib.Core.List.{List, [], _++_, append-assoc}
+use native.Mathlib.Nat.{zero-add}
+use native.Mathlib.Omega.{arith}
+use lib.ListN.{length, getD, take, drop, length-append}
+use lib.Seq.{take-at, drop-at}
+use Rattle.lists.specs.Place.{placed, Put}
+use Rattle.lists.specs.Tables.{table}
+use Rattle.lists.proofs.Below.{sum-next}
+use Rattle.lists.proofs.Sums.{sum-more}
+use Rattle.lists.proofs.Pieces.{put-on}
+use Rattle.lists.proofs.PlaceLaws.{put-length}
+use Rattle.lists.proofs.TableLaws.{table-same, length-table}
+use Rattle.registration.specs.declared.Registration.{Registration}
+use Rattle.registration.specs.Rules.{countAt, placeAt}
+use Rattle.allocation.specs.declared.Allocated.{Allocated}
+use Rattle.allocation.specs.Result.{Allocation}
+use Rattle.allocation.specs.Working.{allocationIn}
+use Rattle.allocation.proofs.Laws.{pairs-length}
+use Rattle.evaluation.specs.Layout.{Part, Shares, Withdrawals, Supplies, pairsBefore, pairsIn, beginOf, sizeOf, partIn, partOf, resultOf, HasLengths}
+
+-- the shares of a consumer are among those of all consumers
+pub shares-there : (r : Registration) (consumer : ℕ) → consumer < r .consumers → pairsBefore r consumer + countAt r consumer ≤ pairsIn r
+shares-there r consumer h =
+    omega (arith, sum-next (countAt r) consumer, sum-more (countAt r) (consumer + 1) (r .consumers) (omega arith))
+
+-- the parts that the working arrays hold
+pub lengths-in : (r : Registration) (allocated : Allocated) → HasLengths r (allocationIn r allocated)
+lengths-in r allocated Shares = pairs-length r (placeAt (allocated .shares))
+lengths-in r allocated Withdrawals = length-table _ (r .consumers)
+lengths-in r allocated Supplies = length-table _ (r .producers)
+
+-- the first numbers of a list, counted from its first place on
+pub from-first : (numbers : List ℕ) (n : ℕ) → table (λ i. getD numbers (0 + i) 0) n ≡ table (λ i. getD numbers i 0) n
+from-first numbers n = table-same _ _ n (λ i h. rw zero-add)
+
+-- the middle one of three lists put together
+part-of : (first second third : List ℕ) (at count : ℕ) → length first ≡ at → length second ≡ count → take count (drop at (first ++ (second ++ third))) ≡ second
+part-of first second third at count e f = rw (drop-at first (second ++ third) at e) (take-at second third count f)
+
+module _ (r : Registration) (allocation : Allocation) (lengths : HasLengths r allocation) where
+  -- the parts one after the other have as many numbers as a result
+  pub size-of-parts : length (resultOf allocation) ≡ sizeOf r
+  size-of-parts = rw (length-append, length-append) (omega (arith, lengths Shares, lengths Withdrawals, lengths Supplies))
+
+  module _ (lent : List ℕ) where
+    -- the numbers after the result
+    abbrev later : List ℕ
+    later = drop (0 + length (resultOf allocation)) lent
+
+    whole : placed 0 (resultOf allocation) lent
+        ≡ partOf allocation Shares ++ (partOf allocation Withdrawals ++ (partOf allocation Supplies ++ later))
+    unfolding placed
+    whole = simp append-assoc
+
+    -- each part stands at its place
+    pub part-stands : (part : Part) → partIn r part (placed 0 (resultOf allocation) lent) ≡ partOf allocation part
+    part-stands Shares = rw whole (part-of [] (partOf allocation Shares) _ 0 _ refl (lengths Shares))
+    part-stands Withdrawals = rw whole (part-of (partOf allocation Shares) (partOf allocation Withdrawals) _ _ _ (lengths Shares) (lengths Withdrawals))
+    part-stands Supplies =
+        let before : length (partOf allocation Shares ++ partOf allocation Withdrawals) ≡ beginOf r Supplies =
+        rw length-append (omega (arith, lengths Shares, lengths Withdrawals)) in
+        rw (whole, ← append-assoc (partOf allocation Shares) (partOf allocation Withdrawals) (partOf allocation Supplies ++ later))
+        (part-of (partOf allocation Shares ++ partOf allocation Withdrawals) (partOf allocation Supplies) later _ _ before (lengths Supplies))
+
+  -- parts put in turn
+  pub parts-put : (before : List ℕ) {withdrawals supplies next end : ℕ} {shares remaining after : List ℕ} → sizeOf r ≤ length before
+      → withdrawals ≡ beginOf r Withdrawals → supplies ≡ beginOf r Supplies
+      → shares ≡ placed 0 (partOf allocation Shares) before
+      → Put withdrawals (partOf allocation Withdrawals) shares remaining next
+      → Put supplies (partOf allocation Supplies) remaining after end
+      → after ≡ placed 0 (resultOf allocation) before
+  parts-put before {withdrawals} {supplies} {next} {end} {shares} room w s e q t =
+      let p : Put 0 (partOf allocation Shares) before shares withdrawals = record { list = e; end = omega (arith, lengths Shares) } in
+      let same : length shares ≡ length before = put-length (omega (arith, lengths Shares)) p in
+      let then : supplies ≡ next = omega (arith, q .end, lengths Withdrawals) in
+      put-on (omega arith) p (put-on (omega (arith, q .end, lengths Withdrawals)) q (rw then at t)) .list

@@ -1,0 +1,86 @@
+-- No number of a result is above the greatest magnitude. Assumes nothing.
+use Prim.Native.Nat.{ℕ, zero, suc, _+_, _≤_, _<_}
+use mathlib.Core.List.{List, [], _∷_, _++_}
+use native.Mathlib.Omega.{arith}
+use lib.Dec.{ltb}
+use lib.ListN.{length, getD, List·getD-append, List·getD-eq-default}
+use borrow.Author.Tests.{ltb-true, ltb-false}
+use Rattle.lists.specs.Place.{placed}
+use Rattle.lists.specs.Tables.{joined}
+use Rattle.lists.proofs.Cases.{by-test}
+use Rattle.lists.proofs.Sums.{sum-term}
+use Rattle.registration.specs.declared.Registration.{Registration}
+use Rattle.registration.specs.Rules.{countAt}
+use Rattle.values.specs.Values.{magnitudeMost}
+use Rattle.allocation.specs.Input.{Shareable, Magnitudes}
+use Rattle.allocation.specs.Rounds.{received}
+use Rattle.allocation.specs.Result.{startOf, roundsFor, allocationOf}
+use Rattle.allocation.proofs.Laws.{allocation-keeps-supplies, allocation-keeps-withdrawals}
+use Rattle.evaluation.specs.Layout.{Part, Shares, Withdrawals, Supplies, sizeOf, partOf, resultOf}
+use Rattle.evaluation.proofs.Laws.{part-lengths, result-size}
+
+-- each number of a list is at most the greatest magnitude; past its end there are zeros
+abbrev EachWithin : List ℕ → Type 0
+EachWithin numbers = (i : ℕ) → getD numbers i 0 ≤ magnitudeMost
+
+one-within : (number : ℕ) → number ≤ magnitudeMost → EachWithin (number ∷ [])
+one-within number h zero = h
+one-within number h (suc i) = omega arith
+
+append-within : (xs ys : List ℕ) → EachWithin xs → EachWithin ys → EachWithin (xs ++ ys)
+append-within [] ys f g i = g i
+append-within (x ∷ xs) ys f g zero = f 0
+append-within (x ∷ xs) ys f g (suc i) = append-within xs ys (λ k. f (suc k)) g i
+
+joined-within : (piece : ℕ → List ℕ) (n : ℕ) → ((i : ℕ) → i < n → EachWithin (piece i)) → EachWithin (joined piece n)
+unfolding joined
+joined-within piece zero each i = omega arith
+joined-within piece (suc n) each i =
+    append-within (joined piece n) (piece n) (joined-within piece n (λ k h. each k (omega arith))) (each n (omega arith)) i
+
+-- it is enough to look at the places before its end
+within-end : (numbers : List ℕ) → ((i : ℕ) → i < length numbers → getD numbers i 0 ≤ magnitudeMost) → EachWithin numbers
+within-end numbers h i =
+    by-test (ltb i (length numbers)) (λ t. h i (ltb-true i (length numbers) t))
+    (λ f. rw (List·getD-eq-default numbers 0 (ltb-false i (length numbers) f)) (omega arith))
+
+-- no number of a result that stands at the front of a list is above the greatest magnitude
+abbrev pub ResultWithin : Registration → List ℕ → Type 0
+ResultWithin r numbers = (i : ℕ) → i < sizeOf r → getD numbers i 0 ≤ magnitudeMost
+
+module _ (r : Registration) (magnitude : ℕ → ℕ) (s : Shareable r) (m : Magnitudes r magnitude) where
+  -- a share is within its consumer's withdrawal, and what remains within what there was
+  part-within : (part : Part) → EachWithin (partOf (allocationOf r magnitude) part)
+  unfolding allocationOf
+  part-within Shares =
+      let share = received r (startOf r magnitude) (roundsFor r) in
+      joined-within _ (r .consumers)
+      (λ consumer h.
+      joined-within _ (countAt r consumer)
+      (λ priority l.
+      one-within (share consumer priority)
+      (omega (
+        arith,
+        sum-term (share consumer) (countAt r consumer) priority l,
+        allocation-keeps-withdrawals r magnitude consumer h,
+        m (r .producers + consumer) (omega arith),
+      ))))
+  part-within Withdrawals =
+      within-end (partOf (allocationOf r magnitude) Withdrawals)
+      (λ consumer h.
+      let one-of : consumer < r .consumers = omega (arith, part-lengths r magnitude Withdrawals) in
+      omega (arith, allocation-keeps-withdrawals r magnitude consumer one-of, m (r .producers + consumer) (omega arith)))
+  part-within Supplies =
+      within-end (partOf (allocationOf r magnitude) Supplies)
+      (λ producer h.
+      let one-of : producer < r .producers = omega (arith, part-lengths r magnitude Supplies) in
+      omega (arith, allocation-keeps-supplies r magnitude s producer one-of, m producer (omega arith)))
+
+  -- each number of the result, in the list that it is put into
+  pub result-within : (lent : List ℕ) → ResultWithin r (placed 0 (resultOf (allocationOf r magnitude)) lent)
+  unfolding placed
+  result-within lent i h =
+      let part = partOf (allocationOf r magnitude) in
+      rw (List·getD-append (resultOf (allocationOf r magnitude)) _ 0 i (omega (arith, result-size r magnitude)))
+      (append-within (part Shares) (part Withdrawals ++ part Supplies) (part-within Shares)
+      (append-within (part Withdrawals) (part Supplies) (part-within Withdrawals) (part-within Supplies)) i)
