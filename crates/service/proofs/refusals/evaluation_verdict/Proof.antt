@@ -73,18 +73,18 @@ returns-5 c =
     let past = c .before in
     evaluation-above _ _ _ _ _ _ (undamaged-there (to-1 (to-2 (to-3 past)))) (there-is (to-2 (to-3 past))) (not-cleared (to-3 past)) (past .if4 .left) (c .if5 .taken)
 
-size-requires : tie.Need-size-requires
-size-requires c κs = few-points _ _ (undamaged-sound _ _ (undamaged-there (to-1 (to-2 (to-3 (to-4 c))))))
+layout-of-requires : tie.Need-layout-of-requires
+layout-of-requires c κs = few-points _ _ (undamaged-sound _ _ (undamaged-there (to-1 (to-2 (to-3 (to-4 c))))))
 
 returns-6 : tie.Need-returns-6
 returns-6 c =
-    let past = c .before .before in
-    evaluation-short _ _ _ _ _ _ (undamaged-there (to-1 (to-2 (to-3 (to-4 past))))) (there-is (to-2 (to-3 (to-4 past)))) (not-cleared (to-3 (to-4 past))) ((to-4 past) .if4 .left) (past .if5 .left) (rw (← c .before .size .ensures) (c .if6 .taken))
+    let past = c .before .before .before in
+    evaluation-short _ _ _ _ _ _ (undamaged-there (to-1 (to-2 (to-3 (to-4 past))))) (there-is (to-2 (to-3 (to-4 past)))) (not-cleared (to-3 (to-4 past))) ((to-4 past) .if4 .left) (past .if5 .left) (rw (← c .before .before .layout-of .ensures .size) (c .if6 .taken))
 
 returns-7 : tie.Need-returns-7
 returns-7 c =
-    let past = c .before .before in
-    evaluation-accepted _ _ _ _ _ _ (undamaged-there (to-1 (to-2 (to-3 (to-4 past))))) (there-is (to-2 (to-3 (to-4 past)))) (not-cleared (to-3 (to-4 past))) ((to-4 past) .if4 .left) (past .if5 .left) (rw (← c .before .size .ensures) (c .if6 .left))
+    let past = c .before .before .before in
+    evaluation-accepted _ _ _ _ _ _ (undamaged-there (to-1 (to-2 (to-3 (to-4 past))))) (there-is (to-2 (to-3 (to-4 past)))) (not-cleared (to-3 (to-4 past))) ((to-4 past) .if4 .left) (past .if5 .left) (rw (← c .before .before .layout-of .ensures .size) (c .if6 .left))
 
 pub evaluation-verdict-spec : {M : Type 1} → statement M
 evaluation-verdict-spec =
@@ -98,6 +98,6 @@ evaluation-verdict-spec =
     returns-3
     returns-4
     returns-5
-    size-requires
+    layout-of-requires
     returns-6
     returns-7)
