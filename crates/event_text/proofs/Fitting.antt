@@ -1,5 +1,5 @@
--- No answer to a line is longer than 7332 bytes. Assumes nothing.
-use Prim.Native.Nat.{ℕ, _≤_}
+-- No answer to a line is longer than the buffer asked for. Assumes nothing.
+use Prim.Native.Nat.{ℕ, _+_, _≤_}
 use mathlib.Core.Path.{_≡_, refl, sym, ap, _∙_}
 use mathlib.Core.List.{List}
 use mathlib.Core.Option.{Option, none, some}
@@ -25,7 +25,7 @@ use Rattle.service.proofs.Looking.{never-accepted}
 use Rattle.event_reader.specs.declared.Event.{Event}
 use Rattle.event_reader.specs.declared.Event.the-variants.{Submission, Clear, Evaluation, Malformed}
 use Rattle.event_reader.specs.Events.{eventIn}
-use Rattle.event_writer.specs.Answers.{lineA, lineR}
+use Rattle.event_writer.specs.Answers.{lineA, lineR, bytesOfRounds}
 use Rattle.event_text.specs.declared.Answered.{Answered}
 use Rattle.event_text.specs.Replies.{callOf, refusalText, resultText, evaluationText, replyWith, replyTo}
 use Rattle.event_text.specs.Contracts.{answerMost, roomVerdict, replyIf, Answers}
@@ -45,7 +45,7 @@ refusal-fits (Evaluation date quarter T) = omega arith
 refusal-fits Malformed = omega arith
 
 -- the lines of a result, which only an accepted evaluation has
-result-fits : (verdict : Verdict) (r : Registration) (numbers : List ℕ) → (verdict ≡ Accepted → Small r) → length (resultText verdict r numbers) ≤ 7324
+result-fits : (verdict : Verdict) (r : Registration) (numbers : List ℕ) → (verdict ≡ Accepted → Small r) → bytesOfRounds + length (resultText verdict r numbers) ≤ answerMost
 result-fits Accepted r numbers small = omega (arith, length-of-result r numbers, small refl .bytes)
 result-fits (Refused refusal) r numbers small = omega arith
 

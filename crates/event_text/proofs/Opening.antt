@@ -19,7 +19,7 @@ use Rattle.service.specs.declared.Service.{Service}
 use Rattle.service.specs.declared.Fresh.{Fresh}
 use Rattle.service.specs.Record.{zeroService}
 use Rattle.service.specs.Contracts.{freshOf}
-use Rattle.event_writer.specs.Answers.{lineA}
+use Rattle.event_writer.specs.Answers.{lineA, bytesOfAnswer}
 use Rattle.event_writer.proofs.Lengths.{length-of-answer}
 use Rattle.event_text.specs.declared.Opened.{Opened}
 use Rattle.event_text.specs.Share.{linesOf, registrationIn, registrationOf, openingVerdict}
@@ -60,8 +60,8 @@ module _ (input : List ℕ) where
         rw (made, v, e, cut, whole, sound)
 
 -- the line of a refusal fills its buffer
-pub whole-line : (answer number next : ℕ) (before after : List ℕ) → 19 ≡ length before → Put 0 (lineA answer number) before after next
-    → (after ≡ lineA answer number) × (19 ≡ length after)
+pub whole-line : (answer number next : ℕ) (before after : List ℕ) → bytesOfAnswer ≡ length before → Put 0 (lineA answer number) before after next
+    → (after ≡ lineA answer number) × (bytesOfAnswer ≡ length after)
 unfolding placed
 whole-line answer number next before after e p =
     let long = length-of-answer answer number in

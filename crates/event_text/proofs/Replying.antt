@@ -31,7 +31,7 @@ use Rattle.service.specs.Record.{withState, callOn}
 use Rattle.service.specs.Contracts.{Submits, Clears, Evaluates}
 use Rattle.event_reader.specs.declared.Event.{Event}
 use Rattle.event_reader.specs.declared.Event.the-variants.{Submission, Clear, Evaluation}
-use Rattle.event_writer.specs.Answers.{lineA, lineR, linesOfResult}
+use Rattle.event_writer.specs.Answers.{lineA, lineR, bytesOfRounds, linesOfResult}
 use Rattle.event_writer.proofs.Lengths.{length-of-rounds}
 use Rattle.event_text.specs.declared.Answered.{Answered}
 use Rattle.event_text.specs.Replies.{onDay, measured, callOf, refusalText, answerText, resultText, evaluationText, callText, resultList, replyOf}
@@ -45,7 +45,7 @@ pub put-same : {at next : ℕ} {first second before after : List ℕ} → first 
 put-same e p = rw e at p
 
 -- where an R line ends
-pub rounds-end : (answer rounds : ℕ) {at next : ℕ} {before after : List ℕ} → Put at (lineR answer rounds) before after next → next ≡ at + 8
+pub rounds-end : (answer rounds : ℕ) {at next : ℕ} {before after : List ℕ} → Put at (lineR answer rounds) before after next → next ≡ at + bytesOfRounds
 rounds-end answer rounds p = p .end ∙ rw length-of-rounds
 
 -- the R line of a refused evaluation is its whole answer
@@ -56,7 +56,7 @@ refused-put r seen refusal e p =
     put-same (sym (ap (λ (verdict : Verdict). line ++ resultText verdict r (seen .result)) e ∙ append-nil line)) p
 
 -- after the R line of an accepted evaluation come the lines of its result
-accepted-put : (r : Registration) (seen : Seen) {middle next : ℕ} {before between after : List ℕ} → seen .verdict ≡ Accepted → 8 ≤ length before
+accepted-put : (r : Registration) (seen : Seen) {middle next : ℕ} {before between after : List ℕ} → seen .verdict ≡ Accepted → bytesOfRounds ≤ length before
     → Put 0 (lineR (answerOf (seen .verdict)) (seen .number)) before between middle → Put middle (linesOfResult r (seen .result)) between after next
     → Put 0 (evaluationText r seen) before after next
 accepted-put r seen e h p q =
@@ -157,7 +157,7 @@ module _ (s : Service) (j : List ℕ) {d : Day} (date : ℕ) {day : ℕ} (told :
       replies-refused-evaluation refusal e p k =
           replies-evaluation (refused-put (s .registration) (seenAt s j day quarter T) refusal (rw (made .answers) at e) (rw (a, made .answers) at p)) k
 
-      pub replies-accepted-evaluation : {middle : ℕ} {between : List ℕ} → evaluated .verdict ≡ Accepted → 8 ≤ length buffer
+      pub replies-accepted-evaluation : {middle : ℕ} {between : List ℕ} → evaluated .verdict ≡ Accepted → bytesOfRounds ≤ length buffer
           → Put 0 (lineR answer (evaluated .rounds)) buffer between middle → Put middle (linesOfResult (s .registration) numbers) between buffer′ n
           → answered ≡ answeredBy (s .state) n → Replies Accepted (replyOf s j (Evaluation date quarter T)) s buffer answered j buffer′
       replies-accepted-evaluation e h p q k =

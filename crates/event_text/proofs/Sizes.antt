@@ -24,14 +24,15 @@ use Rattle.service.specs.Contracts.{Evaluates}
 use Rattle.service.proofs.ReadAgain.{through}
 use Rattle.service.proofs.Looking.{never-accepted}
 use Rattle.service.proofs.Cores.{evaluation-sound}
-use Rattle.event_writer.specs.Answers.{bytesOfResult}
+use Rattle.event_writer.specs.Answers.{bytesOfRounds, bytesOfResult}
+use Rattle.event_text.specs.Contracts.{answerMost}
 
 -- the numbers and bytes of a group's results are within what they are given room for
 pub record Small (r : Registration) : Type 0 where
   pub points : r .producers + r .consumers ≤ 64
   pub counts : (consumer : ℕ) → consumer < r .consumers → countAt r consumer ≤ 5
   pub size : sizeOf r ≤ resultMost
-  pub bytes : bytesOfResult r ≤ 7324
+  pub bytes : bytesOfRounds + bytesOfResult r ≤ answerMost
 
 -- at most 64 points, of which one at least is a producer: at most 63 consumers, each with at most 5 producers
 pub undamaged-small : (r : Registration) → isDamaged r ≡ false → Small r

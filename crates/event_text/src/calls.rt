@@ -7,7 +7,7 @@ ghost use Rattle.answers.specs.declared.Verdict.the-variants.{Accepted as Accep
 ghost use Rattle.answers.specs.Numbers.{numberOf};
 ghost use Rattle.lists.specs.Place.{Put};
 ghost use Rattle.event_reader.specs.declared.Event.the-variants.{Submission as SubmissionLine, Clear as ClearLine, Evaluation as EvaluationLine};
-ghost use Rattle.event_writer.specs.Answers.{lineA};
+ghost use Rattle.event_writer.specs.Answers.{lineA, bytesOfAnswer};
 ghost use Rattle.event_text.specs.Replies.{replyOf};
 ghost use Rattle.event_text.specs.Contracts.{answerMost, Replies};
 use super::Answered;
@@ -20,7 +20,7 @@ use values::Measurement;
 
 // Puts the A line of a refusal to the front of a buffer.
 pub fn put_refusal(out: &mut [u8], refusal: Refusal) -> usize
-    requires { ⌜ 19 ≤ length (now out) ⌝ }
+    requires { ⌜ bytesOfAnswer ≤ length (now out) ⌝ }
     ensures { λ r. ⌜ Put 0 (lineA (numberOf refusal) 0) (now (out .entry)) (now (out .exit)) r ⌝ }
 {
     event_writer::put_answer(out, 0, refusal.number(), 0)
@@ -39,7 +39,7 @@ pub fn answered(state: State, bytes: usize) -> Answered
 
 // A line that asks for no call: its refusal is written, and nothing is altered.
 pub fn no_call(state: State, out: &mut [u8], refusal: Refusal) -> Answered
-    requires { ⌜ 19 ≤ length (now out) ⌝ }
+    requires { ⌜ bytesOfAnswer ≤ length (now out) ⌝ }
     ensures { λ r. ⌜ Put 0 (lineA (numberOf refusal) 0) (now (out .entry)) (now (out .exit)) (r .bytes) × (r ≡ record { verdict = AcceptedCall; state = state; bytes = r .bytes }) ⌝ }
 {
     let bytes = put_refusal(out, refusal);

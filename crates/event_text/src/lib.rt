@@ -5,7 +5,7 @@ ghost use Prim.Native.Nat.{_≤_, _<_};
 ghost use lib.ListN.{length};
 ghost use Rattle.answers.specs.declared.Verdict.the-variants.{Refused as RefusedFor};
 ghost use Rattle.answers.specs.Numbers.{numberOf};
-ghost use Rattle.event_writer.specs.Answers.{lineA};
+ghost use Rattle.event_writer.specs.Answers.{lineA, bytesOfAnswer};
 ghost use Rattle.event_text.specs.Share.{linesOf, isEvent, registrationIn};
 ghost use Rattle.event_text.specs.Contracts.{openedIf, openedOf, lineEnd, Answers};
 use answers::Refusal;
@@ -97,10 +97,10 @@ pub fn open(input: &[u8]) -> Opened
 }
 
 // The A line of a refused opening.
-pub fn refusal_line(refusal: Refusal) -> [u8; 19]
-    ensures { λ r. ⌜ (r ≡ lineA (numberOf refusal) 0) × (19 ≡ length r) ⌝ }
+pub fn refusal_line(refusal: Refusal) -> [u8; event_writer::ANSWER_BYTES]
+    ensures { λ r. ⌜ (r ≡ lineA (numberOf refusal) 0) × (bytesOfAnswer ≡ length r) ⌝ }
 {
-    let mut line = [0; 19];
+    let mut line = [0; event_writer::ANSWER_BYTES];
     calls::put_refusal(&mut line, refusal);
     line
 }

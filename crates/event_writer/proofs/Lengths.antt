@@ -16,7 +16,7 @@ use Rattle.registration.specs.declared.Registration.{Registration}
 use Rattle.registration.specs.Rules.{placeAt, countAt, sourceAt}
 use Rattle.evaluation.specs.declared.Layout.{Layout}
 use Rattle.evaluation.specs.Layout.{pairsBefore, pairsIn, LaidOut}
-use Rattle.event_writer.specs.Answers.{letterA, letterR, letterS, letterU, letterV, widthsA, widthsR, widthsS, widthsOfRemaining, lineA, lineR, lineS, lineOfRemaining, linesOfConsumer, linesS, linesOfRemaining, linesOfResult, bytesOfResult}
+use Rattle.event_writer.specs.Answers.{letterA, letterR, letterS, letterU, letterV, widthsA, widthsR, widthsS, widthsOfRemaining, lineA, bytesOfAnswer, lineR, bytesOfRounds, lineS, lineOfRemaining, linesOfConsumer, linesS, linesOfRemaining, linesOfResult, bytesOfResult}
 
 -- ---- the lines as pieces
 
@@ -50,11 +50,11 @@ remaining-joined letter at count numbers = refl
 
 -- ---- lengths
 
-pub length-of-answer : (answer number : ℕ) → length (lineA answer number) ≡ 19
+pub length-of-answer : (answer number : ℕ) → length (lineA answer number) ≡ bytesOfAnswer
 unfolding total
 length-of-answer answer number = length-line letterA widthsA _ refl
 
-pub length-of-rounds : (answer rounds : ℕ) → length (lineR answer rounds) ≡ 8
+pub length-of-rounds : (answer rounds : ℕ) → length (lineR answer rounds) ≡ bytesOfRounds
 unfolding total
 length-of-rounds answer rounds = length-line letterR widthsR _ refl
 

@@ -48,9 +48,17 @@ widthsOfRemaining = 4 ∷ 10 ∷ []
 abbrev pub lineA : (answer number : ℕ) → List ℕ
 lineA answer number = lineOf letterA widthsA (answer ∷ number ∷ [])
 
+-- how many bytes an A line takes
+abbrev pub bytesOfAnswer : ℕ
+bytesOfAnswer = 19
+
 -- the answer to an evaluation
 abbrev pub lineR : (answer rounds : ℕ) → List ℕ
 lineR answer rounds = lineOf letterR widthsR (answer ∷ rounds ∷ [])
+
+-- how many bytes an R line takes
+abbrev pub bytesOfRounds : ℕ
+bytesOfRounds = 8
 
 -- a consumer, by its number from 1, a producer's number, and the pair's share
 abbrev pub lineS : (consumer producer share : ℕ) → List ℕ

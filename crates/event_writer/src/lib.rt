@@ -4,12 +4,15 @@ ghost use lib.ListN.{length};
 ghost use Rattle.lists.specs.Place.{Put};
 ghost use Rattle.registration.specs.Rules.{placeAt, countAt};
 ghost use Rattle.evaluation.specs.Layout.{pairsIn, sizeOf};
-ghost use Rattle.event_writer.specs.Answers.{lineA, lineR, linesOfConsumer, linesS, linesOfRemaining, linesOfResult, bytesOfResult};
+ghost use Rattle.event_writer.specs.Answers.{lineA, bytesOfAnswer, lineR, bytesOfRounds, linesOfConsumer, linesS, linesOfRemaining, linesOfResult, bytesOfResult};
 use registration::Registration;
+
+// How many bytes an A line takes.
+pub const ANSWER_BYTES: usize = 19;
 
 // Puts an A line at a place of a buffer: the answer, and the stamp or the dropped count.
 pub fn put_answer(out: &mut [u8], start: usize, answer: u64, number: u64) -> usize
-    requires { ⌜ start + 19 ≤ length (now out) ⌝ }
+    requires { ⌜ start + bytesOfAnswer ≤ length (now out) ⌝ }
     ensures { λ r. ⌜ Put start (lineA answer number) (now (out .entry)) (now (out .exit)) r ⌝ }
 {
     lines::put_two(out, start, b'A', 4, 13, answer, number)
@@ -17,7 +20,7 @@ pub fn put_answer(out: &mut [u8], start: usize, answer: u64, number: u64) -> usi
 
 // Puts an R line at a place of a buffer: the answer and the round count.
 pub fn put_rounds(out: &mut [u8], start: usize, answer: u64, rounds: u64) -> usize
-    requires { ⌜ start + 8 ≤ length (now out) ⌝ }
+    requires { ⌜ start + bytesOfRounds ≤ length (now out) ⌝ }
     ensures { λ r. ⌜ Put start (lineR answer rounds) (now (out .entry)) (now (out .exit)) r ⌝ }
 {
     lines::put_two(out, start, b'R', 4, 2, answer, rounds)

@@ -278,14 +278,6 @@ pub fn evaluate(
         return Evaluated { verdict, rounds: 0 };
     }
     let count = numbers.entries;
-    let rounds = evaluation::evaluate(
-        registration,
-        journal,
-        count,
-        day,
-        quarter,
-        until,
-        result,
-    );
+    let rounds = evaluation::evaluate(registration, journal, count, day, quarter, until, result);
     Evaluated { verdict, rounds }
 }
