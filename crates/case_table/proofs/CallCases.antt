@@ -140,12 +140,12 @@ abbrev row : String → RecordAndJournal → List Line → List ℕ → List ℕ
 row shows start lines state journal = record { shows = shows; start = start; lines = lines; state = state; journal = journal }
 
 -- the numbers of a record's changing part
-abbrev numbersIn : State → List ℕ
-numbersIn s = s .last ∷ s .numbers .«kept_stamp» ∷ s .numbers .«kept_day» ∷ s .numbers .entries ∷ []
+abbrev stateNumbers : State → List ℕ
+stateNumbers s = s .last ∷ s .numbers .«kept_stamp» ∷ s .numbers .«kept_day» ∷ s .numbers .entries ∷ []
 
 -- a row of a damaged record or journal: an evaluation is refused by 15, and nothing is altered
 abbrev damagedRow : String → RecordAndJournal → Row
-damagedRow shows start = row shows start (evaluate 38 1 5 refused 15 ∷ []) (numbersIn (start .service .state)) (start .journal)
+damagedRow shows start = row shows start (evaluate 38 1 5 refused 15 ∷ []) (stateNumbers (start .service .state)) (start .journal)
 
 -- the calls of case LIST, and evaluations as of 1001, 1000 and 1003
 unfoldable listLines : List Line
@@ -301,7 +301,7 @@ agree (line ∷ lines) (seen ∷ rest) = agrees line seen && agree lines rest
 
 -- each call gets record and journal as the one before left them, and agrees with its line; at the end record and journal have these numbers
 unfoldable follow : Service → List ℕ → List Line → (state journal : List ℕ) → Bool
-follow s j [] state journal = same (numbersIn (s .state)) state && same j journal
+follow s j [] state journal = same (stateNumbers (s .state)) state && same j journal
 follow s j (line ∷ lines) state journal =
     let left = callOn s j (line .call) in
     agrees line (left .seen) && follow (left .service) (left .journal) lines state journal
