@@ -1,6 +1,6 @@
 #!/usr/bin/env bash
 # The static library for C and Rust: it is proved and built, its header is compiled as C and as C++, and the example programs of both languages are built
-# and run. Each has to write what program `share` writes for case LIST.
+# and run. Each has to write what program `share` writes for case LIST. Header and Rust package give a result the room that crates/evaluation has proved enough.
 set -u
 cd "$(dirname "$0")/.." || exit 1
 bash tests/built.sh || exit 1
@@ -20,6 +20,19 @@ run() {
         failed=1
     fi
 }
+
+# The number that stands behind a name in a file.
+number() {
+    sed -nE "s/.*$1(: usize =)? ([0-9]+).*/\2/p" "$2"
+}
+
+proved=$(number RESULT_MOST crates/evaluation/src/lib.rt)
+for file in $home/share.h $home/rust/src/lib.rs; do
+    if [ -z "$proved" ] || [ "$(number RESULT_MOST $file)" != "$proved" ]; then
+        echo "library.sh: RESULT_MOST of $file is not that of crates/evaluation"
+        failed=1
+    fi
+done
 
 # shellcheck disable=SC2086
 cc -std=c99 $strict -O2 -I $home $home/examples/list.c target/staticlib/libshare_c.a -o "$folder/list" || failed=1

@@ -50,7 +50,10 @@ enum {
     SHARE_TOO_SHORT = 16                  /* the result list or the buffer is too short */
 };
 
-/* A buffer of so many bytes holds the text of every registration, and a list of so many numbers every result. */
+/*
+ * A buffer of so many bytes holds the text of every registration, and a list of so many numbers every result: RESULT_MOST of crates/evaluation,
+ * where it is proved that no registration that is not damaged needs more.
+ */
 #define SHARE_TEXT_MOST 4552
 #define SHARE_RESULT_MOST 359
 
