@@ -23,16 +23,25 @@ run() {
 
 # The number that stands behind a name in a file.
 number() {
-    sed -nE "s/.*$1(: usize =)? ([0-9]+).*/\2/p" "$2"
+    sed -nE "s/.*$1(: usize)?( =)? ([0-9]+)[^0-9]*$/\3/p" "$2"
 }
 
-proved=$(number RESULT_MOST crates/evaluation/src/lib.rt)
-for file in $home/share.h $home/rust/src/lib.rs; do
-    if [ -z "$proved" ] || [ "$(number RESULT_MOST $file)" != "$proved" ]; then
-        echo "library.sh: RESULT_MOST of $file is not that of crates/evaluation"
-        failed=1
-    fi
-done
+# A number that is given in several files, by the first of them: its name there, the file, then a name and a file for each other.
+same() {
+    local first
+    first=$(number "$1" "$2")
+    shift 2
+    while [ $# -gt 0 ]; do
+        if [ -z "$first" ] || [ "$(number "$1" "$2")" != "$first" ]; then
+            echo "library.sh: $1 of $2 is not what it has to be"
+            failed=1
+        fi
+        shift 2
+    done
+}
+
+same resultMost crates/evaluation/specs/Layout.antt RESULT_MOST crates/evaluation/src/lib.rt RESULT_MOST $home/share.h RESULT_MOST $home/rust/src/lib.rs
+same TEXT_MOST $home/share.h TEXT_MOST $home/rust/src/lib.rs
 
 # shellcheck disable=SC2086
 cc -std=c99 $strict -O2 -I $home $home/examples/list.c target/staticlib/libshare_c.a -o "$folder/list" || failed=1

@@ -51,8 +51,8 @@ enum {
 };
 
 /*
- * A buffer of so many bytes holds the text of every registration, and a list of so many numbers every result: RESULT_MOST of crates/evaluation,
- * where it is proved that no registration that is not damaged needs more.
+ * SHARE_TEXT_MOST bytes hold the text of every registration. SHARE_RESULT_MOST numbers hold every result; that no undamaged registration needs more is
+ * proved in crates/evaluation.
  */
 #define SHARE_TEXT_MOST 4552
 #define SHARE_RESULT_MOST 359
@@ -156,7 +156,7 @@ struct share_submit_answer share_submit(struct share_service *service, uint64_t 
                                         struct share_measurement measurement);
 
 /*
- * Clears the journal: entries of days below `day` are dropped, and so are those up to `stamp` that a later one up to `stamp` supersedes. Day
+ * Clears the journal: entries of days below `day` are dropped, and of the others all up to `stamp` but the reading shown at `stamp` for each place. Day
  * and stamp become the kept ones. Gives the number of entries dropped; their room is used again. Record and journal are altered in place.
  * Refused by 15, 9, 11, 12, in this order.
  */

@@ -12,7 +12,7 @@ use Rattle.service.specs.Calls.{evaluated}
 use Rattle.demand3.specs.Book.{Book, noted, bookResult}
 use Rattle.demand3.specs.Demand3.{Gives}
 use Rattle.service.proofs.Admitted.{Evaluating}
-use Rattle.service.proofs.Laws.{four-weeks-kept}
+use Rattle.service.proofs.Laws.{weeks-kept}
 use Rattle.demand3.proofs.Related.{Related}
 
 module _ (last : ℕ) (G : Group) (day quarter T : ℕ) (lent : List ℕ) (book : Book) (rel : Related last G (book .page)) (a : Evaluating last G day quarter T lent) where
@@ -22,7 +22,7 @@ module _ (last : ℕ) (G : Group) (day quarter T : ℕ) (lent : List ℕ) (book 
   same-result =
       rw (← rel .registration) (evaluation-alike day quarter T (a .exists) (G .registration) (readingsOf G) (noted (book .page))
       (λ code slot w. rel .shows code (slot .day) (slot .quarter) T (record {
-        kept = four-weeks-kept (G .keptday) day (slot .day) (a .not-cleared) (w .near);
+        kept = weeks-kept (G .keptday) day (slot .day) (a .not-cleared) (w .near);
         day-most = omega (arith, w .before, exists-day day quarter (a .exists));
         from = w .from;
         to = w .to;

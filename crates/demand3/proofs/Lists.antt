@@ -8,11 +8,11 @@ use Rattle.demand3.specs.Lists.{run, AllRight, Made}
 
 -- what is seen of a call is right, and state and book stay related, wherever they are related
 module _ {State Call Seen Book : Type 0} (look : State → Call → Seen) (next : State → Call → State) (refused : Seen → Bool)
-    (after : Book → Call → Bool → Book) (RightByBook : Book → Call → Seen → Type 0) (Related : State → Book → Type 0)
-    (right : (s : State) (b : Book) → Related s b → (call : Call) → refused (look s call) ≡ false → RightByBook b call (look s call))
+    (after : Book → Call → Bool → Book) (Right : Book → Call → Seen → Type 0) (Related : State → Book → Type 0)
+    (right : (s : State) (b : Book) → Related s b → (call : Call) → refused (look s call) ≡ false → Right b call (look s call))
     (related : (s : State) (b : Book) → Related s b → (call : Call) → Related (next s call) (after b call (refused (look s call)))) where
   -- each accepted call of a list is right
-  pub all-right : (calls : List Call) (s : State) (b : Book) → Related s b → AllRight refused after RightByBook b calls (run look next s calls)
+  pub all-right : (calls : List Call) (s : State) (b : Book) → Related s b → AllRight refused after Right b calls (run look next s calls)
   unfolding run
   all-right [] s b rel = tt
   all-right (x ∷ calls) s b rel = (right s b rel x, all-right calls (next s x) (after b x (refused (look s x))) (related s b rel x))
@@ -31,7 +31,7 @@ module _ {State Call Seen Book : Type 0} (look : State → Call → Seen) (next 
 
   -- a question that calls ask, and what the book answers once it has reached it: later calls do not alter the answer
   module _ {Result : Type 0} (Asks : Call → Type 0) (answer : Book → Result) (Gives : Result → Seen → Type 0) (Reached : Book → Type 0)
-      (gives-right : (b : Book) → Reached b → (call : Call) (a : Seen) → Asks call → RightByBook b call a → Gives (answer b) a)
+      (gives-right : (b : Book) → Reached b → (call : Call) (a : Seen) → Asks call → Right b call a → Gives (answer b) a)
       (asked : (s : State) (b : Book) → Related s b → (call : Call) → Asks call → refused (look s call) ≡ false → Reached b)
       (stays : (s : State) (b : Book) → Related s b → (call : Call) → Reached b → Reached (after b call (refused (look s call))))
       (same : (s : State) (b : Book) → Related s b → (call : Call) → Reached b → answer (after b call (refused (look s call))) ≡ answer b) where
@@ -43,7 +43,7 @@ module _ {State Call Seen Book : Type 0} (look : State → Call → Seen) (next 
     gives (x ∷ calls) s b rel l zero call a m k e =
         let p : x ≡ call = cc in
         let q : look s x ≡ a = cc in
-        let r : RightByBook b x (look s x) = right s b rel x (rw (← q) at e) in
+        let r : Right b x (look s x) = right s b rel x (rw (← q) at e) in
         gives-right b l call a k (rw (q, p) at r)
     gives (x ∷ calls) s b rel l (suc i) call a m k e =
         let b′ = after b x (refused (look s x)) in

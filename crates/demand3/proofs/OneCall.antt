@@ -17,7 +17,7 @@ use Rattle.demand3.specs.Book.{Book, bookAfter}
 use Rattle.demand3.specs.Demand3.{RightByBook}
 use Rattle.service.proofs.Sound.{undamaged}
 use Rattle.demand3.proofs.Related.{Related}
-use Rattle.service.proofs.Admitted.{admitted, submitted-accepted, clearing, evaluating}
+use Rattle.service.proofs.Admitted.{accepted-verdict, admitted, submitted-accepted, clearing, evaluating}
 use Rattle.demand3.proofs.NeverDamaged.{submission-not-15, clear-not-15, evaluation-not-15}
 use Rattle.demand3.proofs.Submissions.{submission-right}
 use Rattle.demand3.proofs.Clearings.{clear-right}
@@ -90,12 +90,6 @@ module _ (book : Book) (G : Group) (rel : Related (book .last) G (book .page)) w
   fine (Clear day stamp) = fine-when-accepted book G _ [] _ _ rel (clear-not-15 last G none day stamp) (fine-clear day stamp)
   fine (Evaluation day quarter T lent) =
       fine-when-accepted book G _ lent _ _ rel (evaluation-not-15 last G none day quarter T lent) (fine-evaluation day quarter T lent)
-
--- a call that is not refused has the verdict Accepted
-accepted-verdict : (verdict : Verdict) (last : ℕ) (G : Group) (lent : List ℕ) (after : After)
-    → refused (whenAccepted verdict last G lent after .seen) ≡ false → verdict ≡ Accepted
-accepted-verdict Accepted last G lent after e = refl
-accepted-verdict (Refused refusal) last G lent after e = absurd (true≢false e)
 
 -- an accepted evaluation is of a quarter hour that exists, as of a stamp up to the last
 pub reached : (last : ℕ) (G : Group) (day quarter T : ℕ) (lent : List ℕ)

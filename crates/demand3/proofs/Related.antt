@@ -10,7 +10,7 @@ use Rattle.registration.specs.Damage.{isDamaged}
 use Rattle.journal.specs.Readings.{shown}
 use Rattle.journal.specs.Damage.{entriesRight}
 use Rattle.journal.proofs.ShownLaws.{Under, shown-all}
-use Rattle.service.specs.Group.{Group, freshGroup, readingsOf}
+use Rattle.service.specs.Group.{Group, readingsOf}
 use Rattle.demand3.specs.Book.{Page, newBook, noted, newestNoted}
 use Rattle.service.proofs.Sound.{Sound}
 
@@ -29,7 +29,18 @@ pub record Related (last : ℕ) (G : Group) (page : Page) : Type 0 where
   pub in-time : (code day quarter T : ℕ) → last ≤ T → Under T (noted page code day quarter)
   pub registration : G .registration ≡ page .registration
 
--- a fresh group and a new book
+-- the group of a fresh service: no entries, P = 0, K = 0
+abbrev freshGroup : Registration → (room : ℕ) → Group
+freshGroup r room =
+    record {
+      registration = r;
+      keptstamp = 0;
+      keptday = 0;
+      entries = [];
+      room = room;
+    }
+
+-- it stands so to a new book
 pub related-fresh : (r : Registration) (room : ℕ) → isDamaged r ≡ false → Related 0 (freshGroup r room) (newBook r .page)
 unfolding entriesRight
 related-fresh r room h =

@@ -1,34 +1,26 @@
 -- An accepted submission: its stamp is the book's, and journal and book go on to show the same. Assumes nothing.
-use Prim.Native.Nat.{ℕ, _+_, _*_, _-_, _≤_, _<_}
+use Prim.Native.Nat.{ℕ, _+_, _*_, _≤_}
 use native.Mathlib.Omega.{arith}
 use mathlib.Core.Path.{_≡_, refl, _∙_}
 use mathlib.Core.Bool.{true, false}
-use mathlib.Core.Logic.{_≢_}
 use mathlib.Core.List.{[], _∷_, append-nil}
 use lib.Dec.{eqb}
-use lib.IntN.{natAbs}
 use lib.ListN.{length, length-append}
-use borrow.Author.Tests.{ltb-true, ltb-false, eqb-false, lt-ltb, le-leb, not-false}
-use Rattle.values.specs.Values.{magnitudeMost}
+use borrow.Author.Tests.{lt-ltb, le-leb}
 use Rattle.lists.proofs.Cases.{by-test}
 use Rattle.values.specs.declared.Measurement.{Measurement}
 use Rattle.calendar.proofs.Laws.{exists-day, exists-quarter}
 use Rattle.journal.specs.Value.{valueOf}
 use Rattle.journal.specs.Readings.{shown, sameAs}
 use Rattle.journal.specs.Entries.{Entry, readingsAt}
-use Rattle.journal.specs.Damage.{entryRight}
-use Rattle.journal.proofs.PlaceLaws.{pointIn-place, dayIn-place, quarterIn-place}
 use Rattle.journal.proofs.ShownLaws.{shown-snoc}
 use Rattle.journal.proofs.Kept.{readings-append}
-use Rattle.journal.proofs.Entries.{right-snoc}
-use Rattle.points.specs.Points.{indexOf}
 use Rattle.service.specs.Group.{Group, rollOf, placeFor, readingsOf, readingsFor}
-use Rattle.service.specs.Refusals.{stampMost}
 use Rattle.service.specs.Calls.{nextStamp, withEntry, entryOf, submitted}
 use Rattle.demand3.specs.Book.{Book, Page, Note, isFor, noted, newestNoted, noteOf, withNote, bookStamp, bookSubmitted}
 use Rattle.service.proofs.Admitted.{Admitted}
+use Rattle.service.proofs.Staying.{sound-more}
 use Rattle.demand3.proofs.SamePlace.{same-place}
-use Rattle.service.proofs.Sound.{Sound}
 use Rattle.demand3.proofs.Related.{Related, Open, newest-shown}
 use Rattle.demand3.proofs.Noted.{noted-more, under-noted}
 
@@ -58,36 +50,6 @@ module _ (last : ℕ) (G : Group) (clock : ℕ) (m : Measurement) (page : Page) 
   abbrev note : Note
   note = noteOf new m
 
-  -- the new entry is right
-  entry-right : entryRight (length (rollOf G)) (G .keptday) entry ≡ true
-  unfolding entryRight
-  entry-right =
-      let i = indexOf (m .code) (rollOf G) in
-      let d = exists-day (m .day) (m .quarter) (a .exists) in
-      let q = exists-quarter (m .day) (m .quarter) (a .exists) in
-      cc (
-        pointIn-place i (m .day) (m .quarter) d (q .0) (q .1),
-        dayIn-place i (m .day) (m .quarter) d (q .0) (q .1),
-        quarterIn-place i (m .day) (m .quarter) d (q .0) (q .1),
-        lt-ltb i (length (rollOf G)) (a .known),
-        le-leb (G .keptday) (m .day) (a .not-cleared),
-        a .exists,
-        le-leb (natAbs (m .value)) magnitudeMost (a .small),
-      )
-
-  -- the group with it is sound
-  sound-more : 3 * (length (G .entries) + 1) ≤ G .room → Sound new (withEntry G entry)
-  sound-more room =
-      let r = rel .sound in
-      record {
-        registered = r .registered;
-        kept-stamp = omega arith;
-        last-stamp = omega (arith, a .last-less);
-        kept-day = r .kept-day;
-        fits = omega (arith, length-append (G .entries) (entry ∷ []));
-        right = right-snoc (length (rollOf G)) (G .keptday) last entry (omega arith) entry-right 0 (omega arith) (G .entries) (r .right);
-      }
-
   -- entry and note are for the same code, day and quarter, and show the same
   shows-more : (c d q T : ℕ) → Open (withEntry G entry) d q T
       → shown T (readingsOf (withEntry G entry) c d q) ≡ shown T (noted (withNote page note) c d q)
@@ -110,7 +72,7 @@ module _ (last : ℕ) (G : Group) (clock : ℕ) (m : Measurement) (page : Page) 
   related-more : 3 * (length (G .entries) + 1) ≤ G .room → Related new (withEntry G entry) (withNote page note)
   related-more room =
       record {
-        sound = sound-more room;
+        sound = sound-more last G clock m a room;
         shows = shows-more;
         in-time = λ c d q T l. under-noted T page note c d q (rel .in-time c d q T (omega arith)) (omega arith);
         registration = rel .registration;

@@ -35,7 +35,7 @@ next both call =
 abbrev pub seenOf : Registration → (journal : List ℕ) → List Call → List Seen
 seenOf r journal calls = run look next (record { service = freshService r; journal = journal }) calls
 
--- an evaluation gives a result of a registration: each part of it at its place, and the round count
+-- an evaluation gives a result of a registration: each part at its place, pair shares, remaining withdrawals and remaining supplies, and the round count
 pub record Gives (r : Registration) (result : Allocation) (seen : Seen) : Type 0 where
   pub parts : (part : Part) → partIn r part (seen .result) ≡ partOf result part
   pub rounds : seen .number ≡ result .rounds

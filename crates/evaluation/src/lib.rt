@@ -41,6 +41,7 @@ pub struct Layout {
 }
 
 // One entry of the pass: where it is of the quarter hour or of an earlier week, and not later than `until`, the table gets its magnitude plus one.
+// The stamps rise, so of one place a later entry, which is the newer reading, takes the place of an earlier one.
 fn take_in(table: &mut [u64], stamp: u64, place: u64, stored: u64, slot: u64, until: u64)
     requires { ⌜ (length (now table) ≡ 320) × (place < 64 * pointPlaces) × (stored ≤ magnitudeMost) × (slot < pointPlaces) ⌝ }
     ensures { λ _. ⌜ TakenIn stamp place stored slot until (now (table .entry)) (now (table .exit)) ⌝ }

@@ -1,11 +1,10 @@
 -- How large the result of an accepted evaluation is: its registration is not damaged, so it has few points and few pairs. Assumes nothing.
 use Prim.Native.Nat.{ℕ, _+_, _≤_, _<_}
-use mathlib.Core.Path.{_≡_, refl, sym, ap, _∙_}
+use mathlib.Core.Path.{_≡_, sym, ap, _∙_}
 use mathlib.Core.Bool.{false}
 use mathlib.Core.List.{List}
 use native.Mathlib.Omega.{arith}
-use Rattle.answers.specs.declared.Verdict.{Verdict}
-use Rattle.answers.specs.declared.Verdict.the-variants.{Accepted, Refused}
+use Rattle.answers.specs.declared.Verdict.the-variants.{Accepted}
 use Rattle.lists.proofs.Below.{and-left, every-at, sum-bound}
 use Rattle.registration.specs.declared.Registration.{Registration}
 use Rattle.registration.specs.Rules.{countAt, countRight, consumerRight}
@@ -16,13 +15,13 @@ use Rattle.evaluation.specs.Layout.{sizeOf, resultMost}
 use Rattle.evaluation.proofs.Laws.{result-within-most}
 use Rattle.service.specs.declared.Service.{Service}
 use Rattle.service.specs.declared.Evaluated.{Evaluated}
-use Rattle.service.specs.Group.{Group, Evaluation, Seen, After}
+use Rattle.service.specs.Group.{Evaluation, isRefused, refused}
 use Rattle.service.specs.Refusals.{evaluationVerdict}
-use Rattle.service.specs.Calls.{evaluated, whenAccepted, step}
+use Rattle.service.specs.Calls.{evaluated, step}
 use Rattle.service.specs.Record.{groupOf, callOn}
 use Rattle.service.specs.Contracts.{Evaluates}
 use Rattle.service.proofs.ReadAgain.{through}
-use Rattle.service.proofs.Looking.{never-accepted}
+use Rattle.service.proofs.Admitted.{accepted-verdict}
 use Rattle.service.proofs.Cores.{evaluation-sound}
 use Rattle.event_writer.specs.Answers.{bytesOfRounds, bytesOfResult}
 use Rattle.event_text.specs.Contracts.{answerMost}
@@ -34,7 +33,7 @@ pub record Small (r : Registration) : Type 0 where
   pub size : sizeOf r ≤ resultMost
   pub bytes : bytesOfRounds + bytesOfResult r ≤ answerMost
 
--- at most 64 points, of which one at least is a producer: at most 63 consumers, each with at most 5 producers
+-- at most 64 points, of which one at least is a producer: the bytes are counted with 63 consumers, each with 5 producers
 pub undamaged-small : (r : Registration) → isDamaged r ≡ false → Small r
 undamaged-small r e =
     let parts = undamaged-parts r e in
@@ -49,21 +48,15 @@ undamaged-small r e =
       bytes = omega (arith, sum, bounds .0, bounds .2);
     }
 
--- a call is seen to be accepted only where that is its verdict
-when-accepted : (verdict : Verdict) (last : ℕ) (G : Group) (lent : List ℕ) (after : After)
-    → whenAccepted verdict last G lent after .seen .verdict ≡ Accepted → verdict ≡ Accepted
-when-accepted Accepted last G lent after e = refl
-when-accepted (Refused refusal) last G lent after e = never-accepted refusal e
-
 module _ (s : Service) (j : List ℕ) (day quarter T : ℕ) (lent : List ℕ) where
   -- an accepted evaluation has passed all tests
   pub evaluation-passed : callOn s j (Evaluation day quarter T lent) .seen .verdict ≡ Accepted
       → evaluationVerdict (s .state .last) (groupOf s j) day quarter T lent ≡ Accepted
   unfolding step
   evaluation-passed e =
-      when-accepted (evaluationVerdict (s .state .last) (groupOf s j) day quarter T lent) (s .state .last) (groupOf s j) lent
+      accepted-verdict (evaluationVerdict (s .state .last) (groupOf s j) day quarter T lent) (s .state .last) (groupOf s j) lent
       (evaluated (s .state .last) (groupOf s j) day quarter T lent)
-      (ap (λ (seen : Seen). seen .verdict) (sym (through s j (Evaluation day quarter T lent) .seen)) ∙ e)
+      (ap refused (sym (through s j (Evaluation day quarter T lent) .seen)) ∙ ap isRefused e)
 
   -- so its registration is not damaged
   pub evaluation-small : callOn s j (Evaluation day quarter T lent) .seen .verdict ≡ Accepted → Small (s .registration)

@@ -35,7 +35,7 @@ openedOf input = openedIf (openingVerdict input) input
 abbrev pub lineEnd : (input : List ℕ) → (at : ℕ) → ℕ
 lineEnd input at = length input - length (afterLine (drop at input))
 
--- the most bytes that answer a line: an R line, 5 S lines for each of 63 consumers, a U or V line for each of 64 points
+-- no answer to a line has more bytes: an R line, 5 S lines for each of 63 consumers, a U or V line for each of 64 points
 abbrev pub answerMost : ℕ
 answerMost = 7332
 

@@ -1,6 +1,5 @@
 // The calls that lines ask for: 9 for the date, then the call's own order, and the answer written to the front of a buffer.
 ghost use mathlib.Core.Path.{_≡_};
-ghost use mathlib.Core.List.{[], _∷_};
 ghost use Prim.Native.Nat.{_≤_};
 ghost use lib.ListN.{length};
 ghost use Rattle.answers.specs.declared.Verdict.the-variants.{Accepted as AcceptedCall};

@@ -19,7 +19,7 @@ mod calls;
 // The most bytes of an input.
 pub const INPUT_MOST: usize = 32768;
 
-// The most bytes that answer a line.
+// No answer to a line has more bytes than this.
 pub const ANSWER_MOST: usize = 7332;
 
 // What opening an input gives: a fresh service, and where the events begin; zeros where the registration is refused.

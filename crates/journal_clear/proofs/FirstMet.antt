@@ -98,8 +98,8 @@ shown-told P lo rs r ss h l =
     let a : r .stamp < m .stamp = shown-above P (r .stamp) ss m (k .1) n in
     rw (q, n, le-leb (r .stamp) (m .stamp) (omega arith)) (ne-eqb (m .stamp) (r .stamp) (λ e. omega arith)))
 
--- ---- THE LAW: an entry is superseded where its stamp is up to P and so is that of one after it with its key
--- No other statement of this crate depends on which of two readings gives way: from the last entry back the first one met is the one shown because
+-- ---- the law of the pass: an entry is superseded where its stamp is up to P and so is that of one after it with its key
+-- No statement of specs/Marks.antt depends on which of two readings gives way: from the last entry back the first one met is the one shown because
 -- the newest is shown. Another order of readings changes this law and what leads to it, the code of `turn` and `pass`, what is said of one entry of a pass
 -- (specs/Seen.antt) and the proofs of that (Turns.antt, Passes.antt). It changes neither what is superseded and what a pass and all passes mark
 -- (specs/Marks.antt), nor how passes follow one another (Windows.antt, `mark`), nor that what is left is what a clear keeps (Superseded.antt, Whole.antt, `keep`).

@@ -10,7 +10,7 @@ use Rattle.journal.specs.Entries.{Entry, keep}
 use Rattle.journal.specs.Stored.{entries, flat, written}
 use Rattle.journal.specs.Damage.{RightFor}
 use Rattle.journal.proofs.Stored.{length-flat}
-use Rattle.journal_clear.specs.Cleared.{Cleared}
+use Rattle.journal_clear.specs.Cleared.{JournalCleared}
 use Rattle.journal_clear.specs.Marks.{isLeft, Marked, Compacted}
 use Rattle.journal_clear.proofs.Windows.{bounded}
 use Rattle.journal_clear.proofs.Superseded.{left-kept}
@@ -36,7 +36,7 @@ module _ (first j zeros : List ℕ) (es : List Entry) (count kept : ℕ)
 pub cleared : (points K P count kept : ℕ) (first marked moved zeros : List ℕ) → RightFor points (entries count first) → Marked P count first marked
     → Compacted K count marked moved kept → 3 * count ≤ length moved
     → zeros ≡ replicate (length (take (3 * count - 3 * kept) (drop (3 * kept) moved))) 0
-    → Cleared K P count first (take (3 * kept) moved ++ (zeros ++ drop (3 * count - 3 * kept) (drop (3 * kept) moved))) kept
+    → JournalCleared K P count first (take (3 * kept) moved ++ (zeros ++ drop (3 * count - 3 * kept) (drop (3 * kept) moved))) kept
 cleared points K P count kept first marked moved zeros r m c fits z =
     let es = keep K P (entries count first) in
     let front : take (3 * kept) moved ≡ flat es =

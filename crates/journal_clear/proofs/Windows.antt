@@ -23,7 +23,7 @@ use Rattle.journal_clear.specs.Seen.{within}
 abbrev pub Bounded : (points : ℕ) → List Entry → Type 0
 Bounded points es = (e : Entry) → List·Memᴰ e es → (0 < e .stamp) × (e .place < points * pointPlaces)
 
--- a point below a number of points has its places below the number times 2775900
+-- a point below a number of points has its places below the number times those of a point
 low-place : (points K : ℕ) (e : Entry) → entryRight points K e ≡ true → e .place < points * pointPlaces
 unfolding entryRight
 low-place points K e h =

@@ -11,7 +11,7 @@ use Rattle.journal.specs.Entries.{pointPlaces, Entry, dayIn, readingsAt}
 use Rattle.journal.specs.Stored.{entries, flat}
 use Rattle.journal.specs.Damage.{RightFor}
 
--- the key of a place in a group of so many points, by its quarter hour first and its point second: each point has 2775900 places
+-- the key of a place in a group of so many points, by its quarter hour first and its point second
 unfoldable pub keyOf : (points place : ℕ) → ℕ
 keyOf points place = place % pointPlaces * points + place / pointPlaces
 

@@ -11,7 +11,7 @@ ghost use lib.Dec.{eqb, leb};
 ghost use Rattle.journal.specs.Entries.{dayIn};
 ghost use Rattle.journal.specs.Stored.{entries, entryAt};
 ghost use Rattle.journal.specs.Damage.{RightFor};
-ghost use Rattle.journal_clear.specs.Cleared.{Cleared};
+ghost use Rattle.journal_clear.specs.Cleared.{JournalCleared};
 ghost use Rattle.journal_clear.specs.Marks.{Passed, Marked, Compacted};
 ghost use Rattle.journal_clear.specs.Seen.{hasSeen, Saw, Turned};
 
@@ -151,7 +151,7 @@ fn zero(numbers: &mut [u64])
 // the emptied numbers become 0. Returns how many are kept.
 pub fn keep(journal: &mut [u64], count: usize, points: u64, day: u64, stamp: u64) -> usize
     requires { ⌜ (3 * count ≤ length (now journal)) × RightFor points (entries count (now journal)) ⌝ }
-    ensures { λ r. ⌜ Cleared day stamp count (now (journal .entry)) (now (journal .exit)) r ⌝ }
+    ensures { λ r. ⌜ JournalCleared day stamp count (now (journal .entry)) (now (journal .exit)) r ⌝ }
 {
     mark(journal, count, points, stamp);
     let kept = compact(journal, count, day);

@@ -1,8 +1,8 @@
 -- What holds of an accepted call: it has passed each test of its order. Assumes nothing.
 use Prim.Native.Nat.{ℕ, _+_, _*_, _-_, _≤_, _<_}
 use native.Mathlib.Omega.{arith}
-use mathlib.Core.Path.{_≡_}
-use mathlib.Core.Bool.{true, false}
+use mathlib.Core.Path.{_≡_, refl}
+use mathlib.Core.Bool.{true, false, true≢false}
 use mathlib.Core.Logic.{_≢_}
 use mathlib.Core.List.{List}
 use lib.IntN.{natAbs}
@@ -10,20 +10,29 @@ use lib.ListN.{length}
 use borrow.Author.Tests.{ltb-true, ltb-false, leb-true, eqb-false, not-false}
 use Rattle.calendar.specs.Dates.{lastDay}
 use Rattle.values.specs.Values.{magnitudeMost}
-use Rattle.answers.specs.declared.Verdict.the-variants.{Accepted}
+use Rattle.answers.specs.declared.Verdict.{Verdict}
+use Rattle.answers.specs.declared.Verdict.the-variants.{Accepted, Refused}
 use Rattle.answers.proofs.Refusals.{passed}
 use Rattle.lists.proofs.Cases.{by-test}
 use Rattle.values.specs.declared.Measurement.{Measurement}
 use Rattle.calendar.specs.Quarters.{quarterExists}
 use Rattle.evaluation.specs.Layout.{sizeOf}
 use Rattle.points.specs.Points.{indexOf}
-use Rattle.service.specs.Group.{Group, rollOf}
+use Rattle.service.specs.Group.{Group, rollOf, After, refused}
 use Rattle.service.specs.Refusals.{stampMost, repeats, earliest, submissionVerdict, clearVerdict, evaluationVerdict}
-use Rattle.service.specs.Calls.{submitted}
+use Rattle.service.specs.Calls.{submitted, whenAccepted}
+use Rattle.service.proofs.Sound.{Sound, undamaged-sound}
+
+-- a call that is not seen to be refused has the verdict of acceptance
+pub accepted-verdict : (verdict : Verdict) (last : ℕ) (G : Group) (lent : List ℕ) (after : After)
+    → refused (whenAccepted verdict last G lent after .seen) ≡ false → verdict ≡ Accepted
+accepted-verdict Accepted last G lent after e = refl
+accepted-verdict (Refused refusal) last G lent after e = absurd (true≢false e)
 
 module _ (last : ℕ) (G : Group) (clock : ℕ) (m : Measurement) where
   -- a submission
   pub record Admitted : Type 0 where
+    pub sound : Sound last G
     pub known : indexOf (m .code) (rollOf G) < length (rollOf G)
     pub exists : quarterExists (m .day) (m .quarter) ≡ true
     pub not-cleared : G .keptday ≤ m .day
@@ -45,6 +54,7 @@ module _ (last : ℕ) (G : Group) (clock : ℕ) (m : Measurement) where
       let k = passed _ _ _ (g .1) in
       let l = passed _ _ _ (k .1) in
       record {
+        sound = undamaged-sound last G (a .0);
         known = ltb-true _ _ (not-false _ (b .0));
         exists = not-false _ (c .0);
         not-cleared = ltb-false _ _ (d .0);
@@ -62,6 +72,7 @@ module _ (last : ℕ) (G : Group) (clock : ℕ) (m : Measurement) where
 module _ (last : ℕ) (G : Group) (day stamp : ℕ) where
   -- a clear
   pub record Clearing : Type 0 where
+    pub sound : Sound last G
     pub day-most : day ≤ lastDay
     pub not-cleared : G .keptday ≤ day
     pub from : G .keptstamp ≤ stamp
@@ -76,6 +87,7 @@ module _ (last : ℕ) (G : Group) (day stamp : ℕ) where
       let d = passed _ _ _ (c .1) in
       let e = passed _ _ _ (d .1) in
       record {
+        sound = undamaged-sound last G (a .0);
         day-most = leb-true _ _ (not-false _ (b .0));
         not-cleared = ltb-false _ _ (c .0);
         from = ltb-false _ _ (d .0);
@@ -85,6 +97,7 @@ module _ (last : ℕ) (G : Group) (day stamp : ℕ) where
 module _ (last : ℕ) (G : Group) (day quarter T : ℕ) (lent : List ℕ) where
   -- an evaluation
   pub record Evaluating : Type 0 where
+    pub sound : Sound last G
     pub exists : quarterExists day quarter ≡ true
     pub not-cleared : earliest (G .keptday) ≤ day
     pub from : G .keptstamp ≤ T
@@ -101,6 +114,7 @@ module _ (last : ℕ) (G : Group) (day quarter T : ℕ) (lent : List ℕ) where
       let e = passed _ _ _ (d .1) in
       let f = passed _ _ _ (e .1) in
       record {
+        sound = undamaged-sound last G (a .0);
         exists = not-false _ (b .0);
         not-cleared = ltb-false _ _ (c .0);
         from = ltb-false _ _ (d .0);

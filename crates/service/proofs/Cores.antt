@@ -8,7 +8,6 @@ use lib.ListN.{length, length-append}
 use Rattle.answers.specs.declared.Refusal.{Refusal}
 use Rattle.answers.specs.declared.Verdict.{Verdict}
 use Rattle.answers.specs.declared.Verdict.the-variants.{Accepted, Refused}
-use Rattle.answers.proofs.Refusals.{passed}
 use Rattle.lists.specs.Place.{placed}
 use Rattle.values.specs.declared.Measurement.{Measurement}
 use Rattle.calendar.specs.Quarters.{quarterExists}
@@ -22,19 +21,19 @@ use Rattle.journal.specs.Damage.{Right}
 use Rattle.journal.specs.Entries.{Entry}
 use Rattle.journal.specs.Stored.{entries, numbers, written}
 use Rattle.journal.proofs.Stored.{length-entries, written-same, put-append}
-use Rattle.journal_clear.specs.Cleared.{Cleared as ClearedJournal}
+use Rattle.journal_clear.specs.Cleared.{JournalCleared}
 use Rattle.service.specs.declared.Service.{Service}
 use Rattle.service.specs.declared.Looked.{Looked}
 use Rattle.service.specs.Group.{Group}
-use Rattle.service.specs.Refusals.{damaged, repeats, submissionVerdict, clearVerdict, evaluationVerdict}
+use Rattle.service.specs.Refusals.{repeats, submissionVerdict, clearVerdict, evaluationVerdict}
 use Rattle.service.specs.Calls.{nextStamp, entryOf, submitted, cleared, evaluated, step}
 use Rattle.service.specs.Record.{groupOf, stateOf, withState, callOn}
 use Rattle.service.specs.Contracts.{Submits, Clears, Evaluates}
 use Rattle.service.specs.Working.{Looks}
-use Rattle.service.proofs.Sound.{Sound, undamaged-sound}
+use Rattle.service.proofs.Sound.{Sound}
 use Rattle.service.proofs.Undamaged.{few-points, right-of, fits-of}
 use Rattle.service.proofs.Own.{evaluation-own}
-use Rattle.service.proofs.Admitted.{admitted, evaluating}
+use Rattle.service.proofs.Admitted.{admitted, clearing, evaluating}
 
 -- the record's changing part is that of the group it holds
 pub state-of : (s : Service) (j : List ℕ) → stateOf (s .state .last) (groupOf s j) ≡ s .state
@@ -63,11 +62,6 @@ module _ (s : Service) (j : List ℕ) (clock : ℕ) (m : Measurement) (looked : 
   abbrev G : Group
   G = groupOf s j
 
-  -- an accepted submission finds nothing damaged
-  accepted-sound : looked .verdict ≡ Accepted → Sound last G
-  unfolding submissionVerdict
-  accepted-sound a = undamaged-sound last G (passed _ _ _ (sym (k .verdict) ∙ a) .0)
-
   pub submits-refused : (refusal : Refusal) → looked .verdict ≡ Refused refusal
       → Submits s j clock m (withState s (s .state)) (record { verdict = looked .verdict; stamp = looked .stamp }) j
   unfolding callOn step
@@ -89,7 +83,7 @@ module _ (s : Service) (j : List ℕ) (clock : ℕ) (m : Measurement) (looked : 
         record {
           service = rw (v, r) (ap (withState s) (sym (state-of s j)));
           answers = rw (v, r, a, t);
-          journal = rw (v, r) (sym (written-again s j (fits-of _ _ _ (accepted-sound a))));
+          journal = rw (v, r) (sym (written-again s j (fits-of _ _ _ (admitted last G clock m v .sound))));
         }
 
     -- a new entry has room
@@ -123,8 +117,7 @@ module _ (s : Service) (j : List ℕ) (clock : ℕ) (m : Measurement) (looked : 
 -- ---- a clear
 pub clear-sound : (s : Service) (j : List ℕ) (day stamp : ℕ) → clearVerdict (s .state .last) (groupOf s j) day stamp ≡ Accepted
     → Sound (s .state .last) (groupOf s j)
-unfolding clearVerdict
-clear-sound s j day stamp e = undamaged-sound _ _ (passed _ _ _ e .0)
+clear-sound s j day stamp e = clearing _ _ _ _ e .sound
 
 module _ (s : Service) (j : List ℕ) (day stamp : ℕ) where
   pub clears-refused : (verdict : Verdict) (refusal : Refusal) → verdict ≡ clearVerdict (s .state .last) (groupOf s j) day stamp → verdict ≡ Refused refusal
@@ -135,7 +128,7 @@ module _ (s : Service) (j : List ℕ) (day stamp : ℕ) where
       record { service = rw v; answers = rw v; journal = rw v }
 
   pub clears-accepted : (verdict : Verdict) (count dropped : ℕ) (j′ : List ℕ) → verdict ≡ clearVerdict (s .state .last) (groupOf s j) day stamp
-      → verdict ≡ Accepted → ClearedJournal day stamp (s .state .numbers .entries) j j′ count → dropped ≡ s .state .numbers .entries - count
+      → verdict ≡ Accepted → JournalCleared day stamp (s .state .numbers .entries) j j′ count → dropped ≡ s .state .numbers .entries - count
       → Clears s j day stamp (withState s (record { last = s .state .last; numbers = record { «kept_stamp» = stamp; «kept_day» = day; entries = count } }))
       (record { verdict = verdict; dropped = dropped }) j′
   unfolding callOn step cleared
@@ -159,8 +152,7 @@ module _ (s : Service) (j : List ℕ) (day quarter T : ℕ) (lent : List ℕ) wh
   -- what an accepted evaluation has passed
   module _ (v : evaluationVerdict (s .state .last) (groupOf s j) day quarter T lent ≡ Accepted) where
     pub evaluation-sound : Sound (s .state .last) (groupOf s j)
-    unfolding evaluationVerdict
-    evaluation-sound = undamaged-sound _ _ (passed _ _ _ v .0)
+    evaluation-sound = evaluating _ _ _ _ _ _ v .sound
 
     pub evaluation-asked : Shareable (s .registration) × (quarterExists day quarter ≡ true) × (3 * s .state .numbers .entries ≤ length j)
         × Right (entries (s .state .numbers .entries) j) × (sizeOf (s .registration) ≤ length lent)

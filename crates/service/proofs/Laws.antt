@@ -1,21 +1,21 @@
 -- A refused call alters nothing; no call alters the journal's length or the registration; a clear sets nothing back, and leaves the weeks that a mean
 -- needs. Assumes nothing.
-use Prim.Native.Nat.{ℕ, zero, suc}
+use Prim.Native.Nat.{ℕ, zero, suc, _+_, _≤_}
 use native.Mathlib.Omega.{arith}
 use mathlib.Core.Path.{_≡_, refl, sym, ap, _∙_}
 use mathlib.Core.Bool.{true, false≢true}
-use mathlib.Core.List.{List}
+use mathlib.Core.List.{List, []}
 use Rattle.answers.specs.declared.Verdict.{Verdict}
 use Rattle.answers.specs.declared.Verdict.the-variants.{Accepted, Refused}
 use Rattle.service.specs.declared.Service.{Service}
 use Rattle.service.specs.Group.{Group, Seen, After, isRefused, refused}
-use Rattle.service.specs.Refusals.{earliest}
-use Rattle.service.specs.Calls.{step}
+use Rattle.service.specs.Refusals.{earliest, clearVerdict}
+use Rattle.service.specs.Calls.{cleared, step}
 use Rattle.service.specs.Record.{groupOf, writtenBack, callOn}
 use Rattle.service.specs.Laws.{lentBy, RefusedAltersNothing, LengthStays, ClearGoesOn, FourWeeksKept}
 use Rattle.service.proofs.Leaves.{Untouched, Leaves, leaves}
 use Rattle.service.proofs.ReadAgain.{through}
-use Rattle.service.proofs.Admitted.{clearing}
+use Rattle.service.proofs.Admitted.{accepted-verdict, clearing, evaluating}
 
 -- a refused call writes nothing back
 nothing-written : (verdict : Verdict) (s : Service) (j : List ℕ) (after : After) → isRefused verdict ≡ true
@@ -51,12 +51,20 @@ length-stays s j call = (through s j call .length-same, through s j call .regist
 
 -- an accepted clear has passed the tests that say so
 pub clear-goes-on : ClearGoesOn
+unfolding step cleared
 clear-goes-on last G day stamp e =
-    let a = clearing last G day stamp e in
-    (a .not-cleared, a .from, a .to)
+    let v : clearVerdict last G day stamp ≡ Accepted = accepted-verdict _ last G [] (cleared last G day stamp) e in
+    let a = clearing last G day stamp v in
+    rw v (a .not-cleared, a .from, a .to)
 
 -- the first day that can be evaluated lies four weeks after the kept day
-pub four-weeks-kept : FourWeeksKept
+pub weeks-kept : (K day before : ℕ) → earliest K ≤ day → day ≤ before + 28 → K ≤ before
 unfolding earliest
-four-weeks-kept zero day before h l = omega arith
-four-weeks-kept (suc K) day before h l = omega arith
+weeks-kept zero day before h l = omega arith
+weeks-kept (suc K) day before h l = omega arith
+
+-- and an accepted evaluation is of such a day
+pub four-weeks-kept : FourWeeksKept
+unfolding step
+four-weeks-kept last G day quarter T lent e before l =
+    weeks-kept (G .keptday) day before (evaluating last G day quarter T lent (accepted-verdict _ last G lent _ e) .not-cleared) l

@@ -7,14 +7,12 @@ use Rattle.values.specs.declared.Measurement.{Measurement}
 use lib.ListN.{length, length-append}
 use Rattle.answers.specs.declared.Verdict.{Verdict}
 use Rattle.answers.specs.declared.Verdict.the-variants.{Accepted, Refused}
-use Rattle.answers.proofs.Refusals.{passed}
 use Rattle.lists.proofs.Cases.{by-test}
 use Rattle.service.specs.Group.{Group, Call, Submission, Clear, Evaluation, After}
 use Rattle.service.specs.Refusals.{repeats, submissionVerdict, clearVerdict, evaluationVerdict}
 use Rattle.service.specs.Calls.{nextStamp, entryOf, submitted, cleared, evaluated, whenAccepted, step}
 use Rattle.service.specs.Laws.{lentBy}
-use Rattle.service.proofs.Sound.{undamaged-sound}
-use Rattle.service.proofs.Admitted.{admitted, submitted-accepted}
+use Rattle.service.proofs.Admitted.{admitted, submitted-accepted, clearing, evaluating}
 use Rattle.journal.proofs.Kept.{length-keep}
 
 -- a refused call leaves last stamp, group and the list lent, and returns 0
@@ -46,10 +44,10 @@ leaves-when-accepted (Refused refusal) last G lent after e f = record { last-sam
 -- an accepted submission
 submission-fits : (last : ℕ) (G : Group) (clock : ℕ) (m : Measurement) → submissionVerdict last G clock m ≡ Accepted
     → Fits G (submitted last G clock m)
-unfolding submitted submissionVerdict
+unfolding submitted
 submission-fits last G clock m e =
-    let s = undamaged-sound last G (passed _ _ _ e .0) in
     let a = admitted last G clock m e in
+    let s = a .sound in
     by-test (repeats last G m)
     (λ t. rw t (record { registration = refl; room = refl; before = s .fits; now = s .fits }))
     (λ t. rw t (record {
@@ -61,17 +59,17 @@ submission-fits last G clock m e =
 
 -- an accepted clear
 clear-fits : (last : ℕ) (G : Group) (day stamp : ℕ) → clearVerdict last G day stamp ≡ Accepted → Fits G (cleared last G day stamp)
-unfolding cleared clearVerdict
+unfolding cleared
 clear-fits last G day stamp e =
-    let s = undamaged-sound last G (passed _ _ _ e .0) in
+    let s = clearing last G day stamp e .sound in
     record { registration = refl; room = refl; before = s .fits; now = omega (arith, s .fits, length-keep day stamp (G .entries)) }
 
 -- an accepted evaluation
 evaluation-fits : (last : ℕ) (G : Group) (day quarter T : ℕ) (lent : List ℕ) → evaluationVerdict last G day quarter T lent ≡ Accepted
     → Fits G (evaluated last G day quarter T lent)
-unfolding evaluated evaluationVerdict
+unfolding evaluated
 evaluation-fits last G day quarter T lent e =
-    let s = undamaged-sound last G (passed _ _ _ e .0) in
+    let s = evaluating last G day quarter T lent e .sound in
     record { registration = refl; room = refl; before = s .fits; now = s .fits }
 
 -- every call, on whatever group

@@ -2,6 +2,7 @@ pub mod Sound
 pub mod Undamaged
 pub mod Admitted
 pub mod Leaves
+pub mod Staying
 pub mod ReadAgain
 pub mod Laws
 pub mod Begun

@@ -2,7 +2,6 @@
 use Prim.Native.Nat.{ℕ}
 use mathlib.Core.Path.{_≡_, ap}
 use mathlib.Core.Bool.{true}
-use Rattle.lists.specs.Below.{differ}
 use Rattle.registration.specs.Rules.{points, codeAt, statusAt, codesDiffer}
 use Rattle.journal.specs.Entries.{placeOf, readingsAt}
 use Rattle.allocation.specs.Result.{allocationOf}

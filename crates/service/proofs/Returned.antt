@@ -8,7 +8,6 @@ use Rattle.values.specs.declared.Measurement.{Measurement}
 use lib.ListN.{length}
 use Rattle.answers.specs.declared.Verdict.{Verdict}
 use Rattle.answers.specs.declared.Verdict.the-variants.{Accepted, Refused}
-use Rattle.answers.proofs.Refusals.{passed}
 use Rattle.lists.proofs.Cases.{by-test}
 use Rattle.registration.specs.declared.Registration.{Registration}
 use Rattle.journal.specs.Order.{Reading}
@@ -23,8 +22,7 @@ use Rattle.service.specs.Group.{Group, Submission, Clear, Evaluation, Af
 use Rattle.service.specs.Refusals.{stampMost, repeats, submissionVerdict, clearVerdict, evaluationVerdict}
 use Rattle.service.specs.Calls.{submitted, cleared, evaluated, whenAccepted, step}
 use Rattle.service.specs.Record.{groupOf, callOn}
-use Rattle.service.proofs.Sound.{undamaged-sound}
-use Rattle.service.proofs.Admitted.{admitted}
+use Rattle.service.proofs.Admitted.{admitted, clearing, evaluating}
 use Rattle.service.proofs.ReadAgain.{through}
 use Rattle.service.proofs.Looking.{never-accepted}
 
@@ -48,10 +46,10 @@ module _ (last : ℕ) (G : Group) (lent : List ℕ) (after : After) where
 -- the stamp of an accepted submission
 submitted-number : (last : ℕ) (G : Group) (clock : ℕ) (m : Measurement) → submissionVerdict last G clock m ≡ Accepted
     → submitted last G clock m .seen .number ≤ stampMost
-unfolding submitted submissionVerdict
+unfolding submitted
 submitted-number last G clock m e =
-    let s = undamaged-sound last G (passed _ _ _ e .0) in
     let a = admitted last G clock m e in
+    let s = a .sound in
     let rs = readingsFor G m in
     by-test (repeats last G m)
     (λ t. rw t (omega (arith, s .last-stamp, stamp-shown last rs (shown last rs) (shown-is-newest last rs))))
@@ -60,14 +58,14 @@ submitted-number last G clock m e =
 -- the dropped count of an accepted clear
 cleared-number : (last : ℕ) (G : Group) (day stamp : ℕ) → clearVerdict last G day stamp ≡ Accepted → 3 * cleared last G day stamp .seen .number ≤ G .room
 unfolding cleared clearVerdict
-cleared-number last G day stamp e = omega (arith, undamaged-sound last G (passed _ _ _ e .0) .fits)
+cleared-number last G day stamp e = omega (arith, clearing last G day stamp e .sound .fits)
 
 -- the result of an accepted evaluation
 evaluated-result : (last : ℕ) (G : Group) (day quarter T : ℕ) (lent : List ℕ) → evaluationVerdict last G day quarter T lent ≡ Accepted
     → ResultWithin (G .registration) (evaluated last G day quarter T lent .seen .result)
 unfolding evaluated evaluationVerdict
 evaluated-result last G day quarter T lent e =
-    let s = undamaged-sound last G (passed _ _ _ e .0) in
+    let s = evaluating last G day quarter T lent e .sound in
     evaluation-within (G .registration) (readingsOf G) day quarter T (undamaged-is-shareable (G .registration) (s .registered))
     (λ code day quarter. readings-small (length (rollOf G)) (G .keptday) last 0 (placeFor G code day quarter) (G .entries) (s .right)) lent
 

@@ -19,17 +19,6 @@ pub record Group : Type 0 where
   pub entries : List Entry
   pub room : ℕ
 
--- a fresh group: no entries, P = 0, K = 0
-abbrev pub freshGroup : Registration → (room : ℕ) → Group
-freshGroup r room =
-    record {
-      registration = r;
-      keptstamp = 0;
-      keptday = 0;
-      entries = [];
-      room = room;
-    }
-
 -- the codes by which the group's places are numbered
 abbrev pub rollOf : Group → List ℕ
 rollOf G = codesOf (G .registration)

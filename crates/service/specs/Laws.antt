@@ -1,13 +1,13 @@
--- What users of the service rely on beside demand 3, stated of its definitions; the proofs stand in proofs/Laws.antt. Assumes nothing.
+-- What users of the service rely on beside demand 3, stated of its definitions; the proofs stand in proofs/Laws.antt, Evaluating.antt and Staying.antt. Assumes nothing.
 use Prim.Native.Nat.{ℕ, _+_, _≤_}
 use mathlib.Core.Path.{_≡_}
-use mathlib.Core.Bool.{true}
+use mathlib.Core.Bool.{true, false}
 use mathlib.Core.List.{List, []}
 use lib.ListN.{length}
-use Rattle.answers.specs.declared.Verdict.the-variants.{Accepted}
 use Rattle.service.specs.declared.Service.{Service}
 use Rattle.service.specs.Group.{Group, Call, Submission, Clear, Evaluation, refused}
-use Rattle.service.specs.Refusals.{earliest, clearVerdict}
+use Rattle.service.specs.Refusals.{damaged}
+use Rattle.service.specs.Calls.{step}
 use Rattle.service.specs.Record.{callOn}
 
 -- the list that a call is lent for its result
@@ -39,12 +39,23 @@ EvaluationAltersNothing =
     (s : Service) (j : List ℕ) (day quarter T : ℕ) (lent : List ℕ)
     → (callOn s j (Evaluation day quarter T lent) .service ≡ s) × (callOn s j (Evaluation day quarter T lent) .journal ≡ j)
 
+-- where nothing is damaged no call leaves anything damaged: the stamps go on to rise up to the last one, and every entry is right
+abbrev pub StaysUndamaged : Type 0
+StaysUndamaged =
+    (last : ℕ) (G : Group) (call : Call) → damaged last G ≡ false
+    → let after = step last G call in
+    damaged (after .last) (after .group) ≡ false
+
 -- an accepted clear sets neither K nor P back, and P not above the last stamp: what an earlier clear dropped is never asked for again
 abbrev pub ClearGoesOn : Type 0
 ClearGoesOn =
-    (last : ℕ) (G : Group) (day stamp : ℕ) → clearVerdict last G day stamp ≡ Accepted
-    → (G .keptday ≤ day) × (G .keptstamp ≤ stamp) × (stamp ≤ last)
+    (last : ℕ) (G : Group) (day stamp : ℕ)
+    → let after = step last G (Clear day stamp) in
+    refused (after .seen) ≡ false
+    → (G .keptday ≤ after .group .keptday) × (G .keptstamp ≤ after .group .keptstamp) × (after .group .keptstamp ≤ after .last)
 
--- no day of the four weeks before one that can be evaluated is cleared
+-- no day of the four weeks before one that is evaluated is cleared; 28 stands here as a number, so that the law does not follow the definition
 abbrev pub FourWeeksKept : Type 0
-FourWeeksKept = (K day before : ℕ) → earliest K ≤ day → day ≤ before + 28 → K ≤ before
+FourWeeksKept =
+    (last : ℕ) (G : Group) (day quarter T : ℕ) (lent : List ℕ) → refused (step last G (Evaluation day quarter T lent) .seen) ≡ false
+    → (before : ℕ) → day ≤ before + 28 → G .keptday ≤ before

@@ -1,4 +1,4 @@
-// The service of one group: readings are submitted, old ones are cleared, quarter hours are evaluated as of any stamp from the kept one on.
+// The service of one group: measurements are submitted, old readings are cleared, quarter hours are evaluated as of any stamp from the kept one on.
 ghost use mathlib.Core.Path.{_≡_};
 ghost use Rattle.service.specs.Record.{zeroService, recordOf, withState};
 ghost use Rattle.service.specs.Contracts.{freshOf, Submits, Clears, Evaluates};
@@ -80,7 +80,7 @@ impl Service {
     // The greatest stamp and clock.
     pub const STAMP_MOST: u64 = 999999999999;
 
-    // How many days before an evaluated one must not be cleared, where any are.
+    // How many days before an evaluated one must not be cleared, if any day is.
     pub const DAYS_BEFORE: u64 = 28;
 
     // A record of zeros, as refused calls return it.

@@ -1,4 +1,4 @@
-/* Case LIST through the static library: a group is read, three readings are submitted, and their quarter hour is evaluated. */
+/* Case LIST through the static library: a group is read, three measurements are submitted, and their quarter hour is evaluated. */
 #include <inttypes.h>
 #include <stdio.h>
 #include <string.h>
@@ -11,13 +11,13 @@ static const char text[] =
     "O 859182400220162088 0 1   1  4000\n"
     "O 859182400220162095 0 1   1  6000\n";
 
-struct reading {
+struct submission {
     uint64_t clock;
     uint64_t code;
     int64_t value;
 };
 
-static const struct reading readings[] = {
+static const struct submission submissions[] = {
     {1000, 859182400220162071, 1001},
     {1000, 859182400220162088, -100},
     {990, 859182400220162095, -900},
@@ -45,10 +45,10 @@ int main(void) {
     }
     struct share_service service = fresh.service;
     uint64_t journal[30] = {0};
-    for (size_t i = 0; i < sizeof readings / sizeof readings[0]; i++) {
-        struct reading r = readings[i];
-        struct share_measurement m = {.code = r.code, .day = date.day, .quarter = 1, .value = r.value};
-        struct share_submit_answer a = share_submit(&service, journal, 30, r.clock, m);
+    for (size_t i = 0; i < sizeof submissions / sizeof submissions[0]; i++) {
+        struct submission s = submissions[i];
+        struct share_measurement m = {.code = s.code, .day = date.day, .quarter = 1, .value = s.value};
+        struct share_submit_answer a = share_submit(&service, journal, 30, s.clock, m);
         printf("A%4" PRIu64 "%13" PRIu64 "\n", a.answer, a.stamp);
     }
     uint64_t result[SHARE_RESULT_MOST];

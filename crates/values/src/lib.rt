@@ -1,8 +1,8 @@
-// Values as they arrive: signed numbers, withdrawals below 0.
+// Values as they arrive, signed numbers, withdrawals below 0; and the measurements that bring them.
 ghost use mathlib.Core.Path.{_≡_};
 ghost use lib.IntN.{natAbs};
 
-// What a submission brings: the value of a code's point for a quarter hour of a day.
+// What a submission brings: the code of a point, a day and its quarter, and the value, positive for a supply and negative for a withdrawal.
 #[repr(C)]
 pub struct Measurement {
     pub code: u64,

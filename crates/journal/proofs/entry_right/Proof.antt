@@ -1,6 +1,6 @@
 -- `journal::entry_right` meets its contract: the tests of the definition in order, of which those of point and day look at the place alone. Assumes nothing.
 use native.Mathlib.Omega.{arith}
-use mathlib.Core.Path.{sym, ap, _∙_}
+use mathlib.Core.Path.{sym, _∙_}
 use borrow.Author.Needs.{needs}
 use borrow.Author.Tests.{not-true, not-false}
 use Rattle.journal.proofs.Rules.{wrong-point, wrong-day, wrong-quarter, stored-left, beyond-points, within-points, before-day, from-day, slot-quarters}

@@ -1,4 +1,4 @@
-//! Case LIST through the static library: a group is read, three readings are submitted, and their quarter hour is evaluated.
+//! Case LIST through the static library: a group is read, three measurements are submitted, and their quarter hour is evaluated.
 
 use share_library::{Measurement, Refusal, Registration, Service, RESULT_MOST};
 
@@ -9,8 +9,8 @@ O 859182400220162088 0 1   1  4000
 O 859182400220162095 0 1   1  6000
 ";
 
-/// Clock, code and value of each reading.
-const READINGS: [(u64, u64, i64); 3] = [
+/// Clock, code and value of each submission.
+const SUBMISSIONS: [(u64, u64, i64); 3] = [
     (1000, 859182400220162071, 1001),
     (1000, 859182400220162088, -100),
     (990, 859182400220162095, -900),
@@ -21,7 +21,7 @@ fn main() -> Result<(), Refusal> {
     let mut service = Service::fresh(&registration)?;
     let day = share_library::day(20240102)?;
     let mut journal = [0; 30];
-    for (clock, code, value) in READINGS {
+    for (clock, code, value) in SUBMISSIONS {
         let measurement = Measurement {
             code,
             day,

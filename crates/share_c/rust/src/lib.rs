@@ -48,7 +48,8 @@ pub struct State {
     pub numbers: Numbers,
 }
 
-/// What a submission brings: the value of a code's point for a quarter hour of a day.
+/// What a submission brings: the code of a point, a day and its quarter, and the value, positive for a supply and negative
+/// for a withdrawal.
 #[repr(C)]
 #[derive(Clone, Copy, PartialEq, Eq, Debug)]
 pub struct Measurement {

@@ -1,4 +1,4 @@
--- `service::refusals::settle` meets its contract: by whether a reading is shown, and whether it has the same magnitude. Assumes nothing.
+-- `service::refusals::settle` meets its contract: by whether a reading is shown, and whether it has the same value. Assumes nothing.
 use Rattle.service.proofs.Looking.{settled-none, settled-repeat, settled-other}
 use borrow.Author.Needs.{needs}
 use Rattle.service.proofs.refusals.settle.Statement.{statement}
