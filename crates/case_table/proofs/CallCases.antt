@@ -34,8 +34,8 @@ use Rattle.evaluation.specs.Evaluation.{evaluationOf}
 use Rattle.service.specs.declared.State.{State}
 use Rattle.service.specs.declared.Service.{Service}
 use Rattle.points.specs.Points.{indexOf}
-use Rattle.service.specs.Group.{Call, Submission, Clear, Evaluation, Seen}
-use Rattle.service.specs.Refusals.{damaged, submissionVerdict, clearVerdict, earliest, evaluationVerdict}
+use Rattle.service.specs.Call.{Call, Submission, Clear, Evaluation, Seen}
+use Rattle.group.specs.Refusals.{damaged, submissionVerdict, clearVerdict, earliest, evaluationVerdict}
 use Rattle.service.specs.Calls.{submitted, cleared, evaluated, step}
 use Rattle.service.specs.Record.{callOn, freshService, zeroService}
 use Rattle.demand3.specs.Lists.{run}

@@ -28,7 +28,7 @@ use Rattle.evaluation.specs.Mean.{sumOf, nearest}
 use Rattle.evaluation.specs.Earlier.{earlier}
 use Rattle.evaluation.specs.Substitutes.{existing, magnitudeOf}
 use Rattle.evaluation.specs.Evaluation.{evaluationOf}
-use Rattle.service.specs.Refusals.{damaged, submissionVerdict, clearVerdict, earliest, evaluationVerdict}
+use Rattle.group.specs.Refusals.{damaged, submissionVerdict, clearVerdict, earliest, evaluationVerdict}
 use Rattle.service.specs.Calls.{submitted, cleared, evaluated, step}
 use Rattle.service.specs.Record.{callOn}
 use Rattle.event_reader.specs.Events.{submissionIn, clearIn, evaluationIn, eventIn}

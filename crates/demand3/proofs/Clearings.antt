@@ -7,10 +7,10 @@ use Rattle.journal.proofs.PlaceLaws.{dayIn-place}
 use Rattle.journal.proofs.Kept.{shown-keep}
 use Rattle.journal.proofs.Entries.{right-rising}
 use Rattle.points.specs.Points.{indexOf}
-use Rattle.service.specs.Group.{Group, rollOf, placeFor}
+use Rattle.group.specs.Group.{Group, rollOf, placeFor}
 use Rattle.service.specs.Calls.{cleared}
 use Rattle.demand3.specs.Book.{Page}
-use Rattle.service.proofs.Admitted.{Clearing}
+use Rattle.group.proofs.Admitted.{Clearing}
 use Rattle.service.proofs.Staying.{sound-less}
 use Rattle.demand3.proofs.Related.{Related}
 

@@ -11,7 +11,7 @@ use Rattle.calendar.specs.Quarters.{quarterExists}
 use Rattle.registration.specs.declared.Registration.{Registration}
 use Rattle.registration.specs.Damage.{isDamaged}
 use Rattle.allocation.specs.Result.{Allocation}
-use Rattle.service.specs.Group.{Call, Evaluation, Seen, refused}
+use Rattle.service.specs.Call.{Call, Evaluation, Seen, refused}
 use Rattle.service.specs.Record.{freshService}
 use Rattle.demand3.specs.Book.{Book, newBook, bookAfter, bookResult}
 use Rattle.demand3.specs.Lists.{Made}

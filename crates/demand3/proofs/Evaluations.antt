@@ -7,12 +7,12 @@ use Rattle.calendar.proofs.Laws.{exists-day}
 use Rattle.evaluation.specs.Evaluation.{evaluationOf}
 use Rattle.evaluation.proofs.Laws.{evaluation-lengths, parts-stand}
 use Rattle.evaluation.proofs.Alike.{evaluation-alike}
-use Rattle.service.specs.Group.{Group, readingsOf}
+use Rattle.group.specs.Group.{Group, readingsOf}
 use Rattle.service.specs.Calls.{evaluated}
 use Rattle.demand3.specs.Book.{Book, noted, bookResult}
 use Rattle.demand3.specs.Demand3.{Gives}
-use Rattle.service.proofs.Admitted.{Evaluating}
-use Rattle.service.proofs.Laws.{weeks-kept}
+use Rattle.group.proofs.Admitted.{Evaluating}
+use Rattle.group.proofs.Laws.{weeks-kept}
 use Rattle.demand3.proofs.Related.{Related}
 
 module _ (last : ℕ) (G : Group) (day quarter T : ℕ) (lent : List ℕ) (book : Book) (rel : Related last G (book .page)) (a : Evaluating last G day quarter T lent) where

@@ -10,7 +10,8 @@ use Rattle.answers.specs.declared.Refusal.the-variants.{Damaged}
 use Rattle.registration.specs.declared.Registration.{Registration}
 use Rattle.registration.specs.Damage.{isDamaged}
 use Rattle.journal.specs.Stored.{entries}
-use Rattle.service.specs.Group.{Group, Call, After, refused}
+use Rattle.group.specs.Group.{Group}
+use Rattle.service.specs.Call.{Call, After, refused}
 use Rattle.service.specs.Calls.{step}
 use Rattle.service.specs.Record.{freshService, groupOf}
 use Rattle.demand3.specs.Book.{Book, newBook, bookAfter}

@@ -10,8 +10,8 @@ use Rattle.journal.specs.Value.{valueOf}
 use Rattle.journal.specs.Readings.{shown, sameAs}
 use Rattle.journal.proofs.ShownLaws.{shown-late}
 use Rattle.evaluation.proofs.Alike.{evaluation-alike}
-use Rattle.service.specs.Group.{Call, Submission, Clear, Evaluation}
-use Rattle.service.specs.Calls.{nextStamp}
+use Rattle.service.specs.Call.{Call, Submission, Clear, Evaluation}
+use Rattle.group.specs.Stamps.{nextStamp}
 use Rattle.demand3.specs.Book.{Book, Note, isFor, noted, newestNoted, withNote, bookSubmitted, bookAfter, bookResult}
 use Rattle.demand3.proofs.Noted.{noted-more}
 

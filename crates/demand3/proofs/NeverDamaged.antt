@@ -13,8 +13,8 @@ use Rattle.answers.specs.declared.Verdict.{Verdict}
 use Rattle.answers.specs.declared.Verdict.the-variants.{Accepted, Refused}
 use Rattle.answers.specs.Numbers.{numberOf, answerOf}
 use Rattle.answers.specs.Order.{refuse_if_else_}
-use Rattle.service.specs.Group.{Group}
-use Rattle.service.specs.Refusals.{damaged, submissionVerdict, clearVerdict, evaluationVerdict}
+use Rattle.group.specs.Group.{Group}
+use Rattle.group.specs.Refusals.{damaged, submissionVerdict, clearVerdict, evaluationVerdict}
 
 -- a test with another number
 other : (n : Refusal) (b : Bool) (later : Verdict) → numberOf n ≢ 15 → later ≢ Refused Damaged → refuse n if b else later ≢ Refused Damaged

@@ -10,14 +10,16 @@ use Rattle.answers.specs.declared.Verdict.{Verdict}
 use Rattle.answers.specs.declared.Verdict.the-variants.{Accepted, Refused}
 use Rattle.answers.specs.declared.Refusal.the-variants.{Damaged}
 use Rattle.calendar.specs.Quarters.{quarterExists}
-use Rattle.service.specs.Group.{Group, Call, Submission, Clear, Evaluation, After, refused}
-use Rattle.service.specs.Refusals.{damaged, submissionVerdict, clearVerdict, evaluationVerdict}
+use Rattle.group.specs.Group.{Group}
+use Rattle.service.specs.Call.{Call, Submission, Clear, Evaluation, After, refused}
+use Rattle.group.specs.Refusals.{damaged, submissionVerdict, clearVerdict, evaluationVerdict}
 use Rattle.service.specs.Calls.{submitted, cleared, evaluated, whenAccepted, step}
 use Rattle.demand3.specs.Book.{Book, bookAfter}
 use Rattle.demand3.specs.Demand3.{RightByBook}
-use Rattle.service.proofs.Sound.{undamaged}
+use Rattle.group.proofs.Sound.{undamaged}
 use Rattle.demand3.proofs.Related.{Related}
-use Rattle.service.proofs.Admitted.{accepted-verdict, admitted, submitted-accepted, clearing, evaluating}
+use Rattle.service.proofs.Accepted.{accepted-verdict, submitted-accepted}
+use Rattle.group.proofs.Admitted.{admitted, clearing, evaluating}
 use Rattle.demand3.proofs.NeverDamaged.{submission-not-15, clear-not-15, evaluation-not-15}
 use Rattle.demand3.proofs.Submissions.{submission-right}
 use Rattle.demand3.proofs.Clearings.{clear-right}

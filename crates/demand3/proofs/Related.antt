@@ -3,6 +3,7 @@ use Prim.Native.Nat.{ℕ, _≤_}
 use native.Mathlib.Omega.{arith}
 use mathlib.Core.Path.{_≡_, refl}
 use mathlib.Core.Bool.{false}
+use mathlib.Core.List.{[]}
 use Rattle.calendar.specs.Dates.{lastDay}
 use Rattle.registration.specs.declared.Registration.{Registration}
 use Rattle.values.specs.declared.Measurement.{Measurement}
@@ -10,9 +11,9 @@ use Rattle.registration.specs.Damage.{isDamaged}
 use Rattle.journal.specs.Readings.{shown}
 use Rattle.journal.specs.Damage.{entriesRight}
 use Rattle.journal.proofs.ShownLaws.{Under, shown-all}
-use Rattle.service.specs.Group.{Group, readingsOf}
+use Rattle.group.specs.Group.{Group, readingsOf}
 use Rattle.demand3.specs.Book.{Page, newBook, noted, newestNoted}
-use Rattle.service.proofs.Sound.{Sound}
+use Rattle.group.proofs.Sound.{Sound}
 
 -- a quarter hour and a stamp that are not cleared
 pub record Open (G : Group) (day quarter T : ℕ) : Type 0 where

@@ -15,10 +15,11 @@ use Rattle.journal.specs.Readings.{shown, sameAs}
 use Rattle.journal.specs.Entries.{Entry, readingsAt}
 use Rattle.journal.proofs.ShownLaws.{shown-snoc}
 use Rattle.journal.proofs.Kept.{readings-append}
-use Rattle.service.specs.Group.{Group, rollOf, placeFor, readingsOf, readingsFor}
-use Rattle.service.specs.Calls.{nextStamp, withEntry, entryOf, submitted}
+use Rattle.group.specs.Group.{Group, rollOf, placeFor, readingsOf, readingsFor}
+use Rattle.group.specs.Stamps.{nextStamp}
+use Rattle.service.specs.Calls.{withEntry, entryOf, submitted}
 use Rattle.demand3.specs.Book.{Book, Page, Note, isFor, noted, newestNoted, noteOf, withNote, bookStamp, bookSubmitted}
-use Rattle.service.proofs.Admitted.{Admitted}
+use Rattle.group.proofs.Admitted.{Admitted}
 use Rattle.service.proofs.Staying.{sound-more}
 use Rattle.demand3.proofs.SamePlace.{same-place}
 use Rattle.demand3.proofs.Related.{Related, Open, newest-shown}

@@ -13,8 +13,8 @@ use Rattle.journal.specs.Order.{Reading}
 use Rattle.lists.specs.Those.{those}
 use Rattle.journal.specs.Readings.{strongest, sameAs, stampOf}
 use Rattle.evaluation.specs.Evaluation.{evaluationOf}
-use Rattle.service.specs.Group.{Call, Submission, Clear, Evaluation}
-use Rattle.service.specs.Calls.{nextStamp}
+use Rattle.service.specs.Call.{Call, Submission, Clear, Evaluation}
+use Rattle.group.specs.Stamps.{nextStamp}
 
 -- what is noted of an accepted submission: code, day, quarter, and the reading with its magnitude and stamp
 pub record Note : Type 0 where

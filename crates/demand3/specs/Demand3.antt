@@ -11,7 +11,7 @@ use Rattle.registration.specs.Damage.{isDamaged}
 use Rattle.allocation.specs.Result.{Allocation}
 use Rattle.evaluation.specs.Layout.{Part, partIn, partOf}
 use Rattle.service.specs.declared.Service.{Service}
-use Rattle.service.specs.Group.{Call, Submission, Clear, Evaluation, Seen, refused}
+use Rattle.service.specs.Call.{Call, Submission, Clear, Evaluation, Seen, refused}
 use Rattle.service.specs.Record.{freshService, callOn}
 use Rattle.demand3.specs.Book.{Book, newBook, bookStamp, bookAfter, bookResult}
 use Rattle.demand3.specs.Lists.{run, AllRight, Made}

@@ -18,10 +18,10 @@ use Rattle.columns.specs.Column.{columnOf, leadOf}
 use Rattle.columns.specs.Fields.{columnsOf}
 use Rattle.registration.specs.declared.Registration.{Registration}
 use Rattle.service.specs.declared.Service.{Service}
-use Rattle.service.specs.Group.{Call, Seen}
-use Rattle.service.specs.Group.{Submission as Submit, Clear as ClearUp, Evaluation as Evaluate}
+use Rattle.service.specs.Call.{Call, Seen}
+use Rattle.service.specs.Call.{Submission as Submit, Clear as ClearUp, Evaluation as Evaluate}
 use Rattle.service.specs.Record.{callOn}
-use Rattle.service.proofs.Looking.{never-accepted}
+use Rattle.group.proofs.Looking.{never-accepted}
 use Rattle.event_reader.specs.declared.Event.{Event}
 use Rattle.event_reader.specs.declared.Event.the-variants.{Submission, Clear, Evaluation, Malformed}
 use Rattle.event_reader.specs.Events.{eventIn}

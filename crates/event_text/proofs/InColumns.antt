@@ -17,7 +17,7 @@ use Rattle.allocation.proofs.Shareable.{few-points, pair-of}
 use Rattle.evaluation.specs.Layout.{Withdrawals, Supplies, pairsBefore, beginOf}
 use Rattle.evaluation.proofs.Parts.{shares-there}
 use Rattle.evaluation.proofs.ResultBounds.{ResultWithin}
-use Rattle.service.specs.Group.{Submission, Clear, Evaluation}
+use Rattle.service.specs.Call.{Submission, Clear, Evaluation}
 use Rattle.service.specs.Record.{callOn}
 use Rattle.service.proofs.Cores.{evaluation-asked}
 use Rattle.service.proofs.Returned.{stamp-returned, dropped-returned, rounds-returned, result-returned}

@@ -5,7 +5,7 @@ use mathlib.Core.List.{List, [], _∷_, _++_}
 use mathlib.Core.Option.{Option, none, some}
 use Rattle.registration.specs.declared.Registration.{Registration}
 use Rattle.service.specs.declared.Service.{Service}
-use Rattle.service.specs.Group.{Call, Seen}
+use Rattle.service.specs.Call.{Call, Seen}
 use Rattle.service.specs.Record.{callOn}
 use Rattle.demand3.specs.Lists.{run}
 use Rattle.demand3.specs.Demand3.{look, next}

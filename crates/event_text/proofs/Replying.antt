@@ -25,8 +25,8 @@ use Rattle.service.specs.declared.Service.{Service}
 use Rattle.service.specs.declared.Submitted.{Submitted}
 use Rattle.service.specs.declared.Cleared.{Cleared}
 use Rattle.service.specs.declared.Evaluated.{Evaluated}
-use Rattle.service.specs.Group.{Call, Seen}
-use Rattle.service.specs.Group.{Submission as Submit, Clear as ClearUp, Evaluation as Evaluate}
+use Rattle.service.specs.Call.{Call, Seen}
+use Rattle.service.specs.Call.{Submission as Submit, Clear as ClearUp, Evaluation as Evaluate}
 use Rattle.service.specs.Record.{withState, callOn}
 use Rattle.service.specs.Contracts.{Submits, Clears, Evaluates}
 use Rattle.event_reader.specs.declared.Event.{Event}

@@ -15,13 +15,13 @@ use Rattle.evaluation.specs.Layout.{sizeOf, resultMost}
 use Rattle.evaluation.proofs.Laws.{result-within-most}
 use Rattle.service.specs.declared.Service.{Service}
 use Rattle.service.specs.declared.Evaluated.{Evaluated}
-use Rattle.service.specs.Group.{Evaluation, isRefused, refused}
-use Rattle.service.specs.Refusals.{evaluationVerdict}
+use Rattle.service.specs.Call.{Evaluation, isRefused, refused}
+use Rattle.group.specs.Refusals.{evaluationVerdict}
 use Rattle.service.specs.Calls.{evaluated, step}
 use Rattle.service.specs.Record.{groupOf, callOn}
 use Rattle.service.specs.Contracts.{Evaluates}
 use Rattle.service.proofs.ReadAgain.{through}
-use Rattle.service.proofs.Admitted.{accepted-verdict}
+use Rattle.service.proofs.Accepted.{accepted-verdict}
 use Rattle.service.proofs.Cores.{evaluation-sound}
 use Rattle.event_writer.specs.Answers.{bytesOfRounds, bytesOfResult}
 use Rattle.event_text.specs.Contracts.{answerMost}

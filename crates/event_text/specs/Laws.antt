@@ -14,7 +14,7 @@ use Rattle.registration.specs.declared.Registration.{Registration}
 use Rattle.registration.specs.Rules.{countAt, sourceAt}
 use Rattle.evaluation.specs.Layout.{Withdrawals, Supplies, pairsBefore, lengthOf, beginOf}
 use Rattle.service.specs.declared.Service.{Service}
-use Rattle.service.specs.Group.{Call, Submission, Clear, Evaluation, Seen}
+use Rattle.service.specs.Call.{Call, Submission, Clear, Evaluation, Seen}
 use Rattle.service.specs.Record.{callOn}
 use Rattle.demand3.specs.Demand3.{seenOf}
 use Rattle.event_reader.specs.declared.Event.{Event}

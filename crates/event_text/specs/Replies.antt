@@ -15,8 +15,8 @@ use Rattle.registration.specs.declared.Registration.{Registration}
 use Rattle.evaluation.specs.Layout.{resultMost}
 use Rattle.values.specs.declared.Measurement.{Measurement}
 use Rattle.service.specs.declared.Service.{Service}
-use Rattle.service.specs.Group.{Call, Seen}
-use Rattle.service.specs.Group.{Submission as Submit, Clear as ClearUp, Evaluation as Evaluate}
+use Rattle.service.specs.Call.{Call, Seen}
+use Rattle.service.specs.Call.{Submission as Submit, Clear as ClearUp, Evaluation as Evaluate}
 use Rattle.service.specs.Record.{callOn}
 use Rattle.event_reader.specs.declared.Event.{Event}
 use Rattle.event_reader.specs.declared.Event.the-variants.{Submission, Clear, Evaluation, Malformed}

@@ -17,23 +17,25 @@ use Rattle.evaluation.specs.Layout.{sizeOf, ResultPut}
 use Rattle.allocation.specs.Result.{allocationOf}
 use Rattle.allocation.proofs.Laws.{undamaged-is-shareable}
 use Rattle.evaluation.specs.Evaluation.{magnitudesIn}
+use Rattle.journal.specs.Readings.{shown, stampOf}
 use Rattle.journal.specs.Damage.{Right}
 use Rattle.journal.specs.Entries.{Entry}
 use Rattle.journal.specs.Stored.{entries, numbers, written}
 use Rattle.journal.proofs.Stored.{length-entries, written-same, put-append}
 use Rattle.journal_clear.specs.Cleared.{JournalCleared}
 use Rattle.service.specs.declared.Service.{Service}
-use Rattle.service.specs.declared.Looked.{Looked}
-use Rattle.service.specs.Group.{Group}
-use Rattle.service.specs.Refusals.{repeats, submissionVerdict, clearVerdict, evaluationVerdict}
-use Rattle.service.specs.Calls.{nextStamp, entryOf, submitted, cleared, evaluated, step}
+use Rattle.group.specs.declared.Looked.{Looked}
+use Rattle.group.specs.Group.{Group, readingsFor}
+use Rattle.group.specs.Refusals.{repeats, submissionVerdict, clearVerdict, evaluationVerdict}
+use Rattle.group.specs.Stamps.{nextStamp}
+use Rattle.service.specs.Calls.{entryOf, submitted, cleared, evaluated, step}
 use Rattle.service.specs.Record.{groupOf, stateOf, withState, callOn}
 use Rattle.service.specs.Contracts.{Submits, Clears, Evaluates}
-use Rattle.service.specs.Working.{Looks}
-use Rattle.service.proofs.Sound.{Sound}
-use Rattle.service.proofs.Undamaged.{few-points, right-of, fits-of}
+use Rattle.group.specs.Working.{Looks}
+use Rattle.group.proofs.Sound.{Sound}
+use Rattle.group.proofs.Undamaged.{few-points, right-of, fits-of}
 use Rattle.service.proofs.Own.{evaluation-own}
-use Rattle.service.proofs.Admitted.{admitted, clearing, evaluating}
+use Rattle.group.proofs.Admitted.{admitted, clearing, evaluating}
 
 -- the record's changing part is that of the group it holds
 pub state-of : (s : Service) (j : List ℕ) → stateOf (s .state .last) (groupOf s j) ≡ s .state
@@ -67,7 +69,7 @@ module _ (s : Service) (j : List ℕ) (clock : ℕ) (m : Measurement) (looked : 
   unfolding callOn step
   submits-refused refusal e =
       let v : submissionVerdict last G clock m ≡ Refused refusal = sym (k .verdict) ∙ e in
-      let t : looked .stamp ≡ 0 = k .stamp ∙ rw v in
+      let t : looked .stamp ≡ 0 = k .zero refusal e in
       record { service = rw v; answers = rw (v, e, t); journal = rw v }
 
   module _ (a : looked .verdict ≡ Accepted) where
@@ -79,7 +81,7 @@ module _ (s : Service) (j : List ℕ) (clock : ℕ) (m : Measurement) (looked : 
     unfolding callOn step submitted
     submits-repeat e =
         let r : repeats last G m ≡ true = sym (k .repeat a) ∙ e in
-        let t = rw (v, r) at (k .stamp) in
+        let t : looked .stamp ≡ stampOf (shown last (readingsFor G m)) = k .stamp a ∙ rw r in
         record {
           service = rw (v, r) (ap (withState s) (sym (state-of s j)));
           answers = rw (v, r, a, t);
@@ -103,7 +105,7 @@ module _ (s : Service) (j : List ℕ) (clock : ℕ) (m : Measurement) (looked : 
     unfolding callOn step submitted
     submits-new j′ e q =
         let r : repeats last G m ≡ false = sym (k .repeat a) ∙ e in
-        let t : looked .stamp ≡ nextStamp clock last = rw (v, r) at (k .stamp) in
+        let t : looked .stamp ≡ nextStamp clock last = k .stamp a ∙ rw r in
         let n = s .state .numbers .entries in
         let new : Entry = entryOf G (nextStamp clock last) m in
         let grown : length (entries n j ++ (new ∷ [])) ≡ n + 1 = length-append (entries n j) (new ∷ []) ∙ ap (λ (x : ℕ). x + 1) (length-entries n j) in

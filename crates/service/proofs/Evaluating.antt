@@ -6,7 +6,7 @@ use lib.ListN.{length}
 use Rattle.answers.specs.declared.Verdict.{Verdict}
 use Rattle.answers.specs.declared.Verdict.the-variants.{Accepted, Refused}
 use Rattle.service.specs.declared.Service.{Service}
-use Rattle.service.specs.Refusals.{evaluationVerdict}
+use Rattle.group.specs.Refusals.{evaluationVerdict}
 use Rattle.service.specs.Calls.{evaluated, whenAccepted, step}
 use Rattle.service.specs.Record.{groupOf, withState, Left, writtenBack, callOn}
 use Rattle.service.specs.Laws.{EvaluationAltersNothing}

@@ -8,14 +8,16 @@ use mathlib.Core.List.{List, []}
 use Rattle.answers.specs.declared.Verdict.{Verdict}
 use Rattle.answers.specs.declared.Verdict.the-variants.{Accepted, Refused}
 use Rattle.service.specs.declared.Service.{Service}
-use Rattle.service.specs.Group.{Group, Seen, After, isRefused, refused}
-use Rattle.service.specs.Refusals.{earliest, clearVerdict}
+use Rattle.group.specs.Group.{Group}
+use Rattle.service.specs.Call.{Seen, After, isRefused, refused}
+use Rattle.group.specs.Refusals.{earliest, clearVerdict}
 use Rattle.service.specs.Calls.{cleared, step}
 use Rattle.service.specs.Record.{groupOf, writtenBack, callOn}
-use Rattle.service.specs.Laws.{lentBy, RefusedAltersNothing, LengthStays, ClearGoesOn, FourWeeksKept}
+use Rattle.service.specs.Laws.{lentBy, RefusedAltersNothing, LengthStays, ClearGoesOn}
 use Rattle.service.proofs.Leaves.{Untouched, Leaves, leaves}
 use Rattle.service.proofs.ReadAgain.{through}
-use Rattle.service.proofs.Admitted.{accepted-verdict, clearing, evaluating}
+use Rattle.service.proofs.Accepted.{accepted-verdict}
+use Rattle.group.proofs.Admitted.{clearing, evaluating}
 
 -- a refused call writes nothing back
 nothing-written : (verdict : Verdict) (s : Service) (j : List ℕ) (after : After) → isRefused verdict ≡ true
@@ -56,15 +58,3 @@ clear-goes-on last G day stamp e =
     let v : clearVerdict last G day stamp ≡ Accepted = accepted-verdict _ last G [] (cleared last G day stamp) e in
     let a = clearing last G day stamp v in
     rw v (a .not-cleared, a .from, a .to)
-
--- the first day that can be evaluated lies four weeks after the kept day
-pub weeks-kept : (K day before : ℕ) → earliest K ≤ day → day ≤ before + 28 → K ≤ before
-unfolding earliest
-weeks-kept zero day before h l = omega arith
-weeks-kept (suc K) day before h l = omega arith
-
--- and an accepted evaluation is of such a day
-pub four-weeks-kept : FourWeeksKept
-unfolding step
-four-weeks-kept last G day quarter T lent e before l =
-    weeks-kept (G .keptday) day before (evaluating last G day quarter T lent (accepted-verdict _ last G lent _ e) .not-cleared) l

@@ -8,11 +8,14 @@ use lib.ListN.{length, length-append}
 use Rattle.answers.specs.declared.Verdict.{Verdict}
 use Rattle.answers.specs.declared.Verdict.the-variants.{Accepted, Refused}
 use Rattle.lists.proofs.Cases.{by-test}
-use Rattle.service.specs.Group.{Group, Call, Submission, Clear, Evaluation, After}
-use Rattle.service.specs.Refusals.{repeats, submissionVerdict, clearVerdict, evaluationVerdict}
-use Rattle.service.specs.Calls.{nextStamp, entryOf, submitted, cleared, evaluated, whenAccepted, step}
+use Rattle.group.specs.Group.{Group}
+use Rattle.service.specs.Call.{Call, Submission, Clear, Evaluation, After}
+use Rattle.group.specs.Refusals.{repeats, submissionVerdict, clearVerdict, evaluationVerdict}
+use Rattle.group.specs.Stamps.{nextStamp}
+use Rattle.service.specs.Calls.{entryOf, submitted, cleared, evaluated, whenAccepted, step}
 use Rattle.service.specs.Laws.{lentBy}
-use Rattle.service.proofs.Admitted.{admitted, submitted-accepted, clearing, evaluating}
+use Rattle.group.proofs.Admitted.{admitted, clearing, evaluating}
+use Rattle.service.proofs.Accepted.{submitted-accepted}
 use Rattle.journal.proofs.Kept.{length-keep}
 
 -- a refused call leaves last stamp, group and the list lent, and returns 0

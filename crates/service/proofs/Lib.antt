@@ -1,15 +1,10 @@
-pub mod Sound
-pub mod Undamaged
-pub mod Admitted
+pub mod Accepted
 pub mod Leaves
 pub mod Staying
 pub mod ReadAgain
 pub mod Laws
 pub mod Begun
-pub mod Verdicts
-pub mod Looking
 pub mod Own
-pub mod Told
 pub mod Cores
 pub mod Evaluating
 pub mod Returned

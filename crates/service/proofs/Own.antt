@@ -8,7 +8,7 @@ use Rattle.allocation.specs.Result.{allocationOf}
 use Rattle.allocation.proofs.Laws.{allocation-same}
 use Rattle.evaluation.specs.Substitutes.{magnitudeOf}
 use Rattle.evaluation.specs.Evaluation.{evaluationOf, magnitudesIn}
-use Rattle.service.specs.Group.{Group, readingsOf}
+use Rattle.group.specs.Group.{Group, readingsOf}
 use Rattle.points.proofs.Index.{index-own}
 
 -- an evaluation by codes is that by the points' own places

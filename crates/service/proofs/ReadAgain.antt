@@ -9,7 +9,7 @@ use Rattle.answers.specs.declared.Verdict.the-variants.{Accepted, Refused}
 use Rattle.journal.specs.Stored.{entries, written}
 use Rattle.journal.proofs.Stored.{entries-written, length-entries, length-written}
 use Rattle.service.specs.declared.Service.{Service}
-use Rattle.service.specs.Group.{Call, After}
+use Rattle.service.specs.Call.{Call, After}
 use Rattle.service.specs.Calls.{step}
 use Rattle.service.specs.Record.{groupOf, Left, writtenBack, callOn}
 use Rattle.service.specs.Laws.{lentBy}

@@ -18,13 +18,14 @@ use Rattle.allocation.proofs.Laws.{undamaged-is-shareable}
 use Rattle.evaluation.proofs.ResultBounds.{ResultWithin}
 use Rattle.evaluation.proofs.Greatest.{readings-small, evaluation-within, rounds-few}
 use Rattle.service.specs.declared.Service.{Service}
-use Rattle.service.specs.Group.{Group, Submission, Clear, Evaluation, After, rollOf, placeFor, readingsOf, readingsFor}
-use Rattle.service.specs.Refusals.{stampMost, repeats, submissionVerdict, clearVerdict, evaluationVerdict}
+use Rattle.group.specs.Group.{Group, rollOf, placeFor, readingsOf, readingsFor}
+use Rattle.service.specs.Call.{Submission, Clear, Evaluation, After}
+use Rattle.group.specs.Refusals.{stampMost, repeats, submissionVerdict, clearVerdict, evaluationVerdict}
 use Rattle.service.specs.Calls.{submitted, cleared, evaluated, whenAccepted, step}
 use Rattle.service.specs.Record.{groupOf, callOn}
-use Rattle.service.proofs.Admitted.{admitted, clearing, evaluating}
+use Rattle.group.proofs.Admitted.{admitted, clearing, evaluating}
 use Rattle.service.proofs.ReadAgain.{through}
-use Rattle.service.proofs.Looking.{never-accepted}
+use Rattle.group.proofs.Looking.{never-accepted}
 
 -- what is shown as of T has a stamp of at most T
 stamp-shown : (T : ℕ) (rs : List Reading) (o : Option Reading) → ShowsNewest T rs o → stampOf o ≤ T

@@ -22,12 +22,14 @@ use Rattle.journal.proofs.PlaceLaws.{pointIn-place, dayIn-place, quarterIn-plac
 use Rattle.journal.proofs.Kept.{length-keep}
 use Rattle.journal.proofs.Entries.{right-snoc, right-those}
 use Rattle.points.specs.Points.{indexOf}
-use Rattle.service.specs.Group.{Group, rollOf, Call, Submission, Clear, Evaluation, After}
-use Rattle.service.specs.Refusals.{repeats, evaluationVerdict}
-use Rattle.service.specs.Calls.{nextStamp, withEntry, entryOf, submitted, clearedGroup, cleared, evaluated, whenAccepted, step}
+use Rattle.group.specs.Group.{Group, rollOf}
+use Rattle.service.specs.Call.{Call, Submission, Clear, Evaluation, After}
+use Rattle.group.specs.Refusals.{repeats, evaluationVerdict}
+use Rattle.group.specs.Stamps.{nextStamp}
+use Rattle.service.specs.Calls.{withEntry, entryOf, submitted, clearedGroup, cleared, evaluated, whenAccepted, step}
 use Rattle.service.specs.Laws.{StaysUndamaged}
-use Rattle.service.proofs.Sound.{Sound, undamaged, undamaged-sound}
-use Rattle.service.proofs.Admitted.{Admitted, admitted, Clearing, clearing}
+use Rattle.group.proofs.Sound.{Sound, undamaged, undamaged-sound}
+use Rattle.group.proofs.Admitted.{Admitted, admitted, Clearing, clearing}
 
 module _ (last : ℕ) (G : Group) (clock : ℕ) (m : Measurement) (a : Admitted last G clock m) where
   -- the entry that an accepted submission appends

@@ -1,5 +1,5 @@
 -- What each call does: its refusal, which alters nothing, or what an accepted call leaves. Assumes nothing.
-use Prim.Native.Nat.{ℕ, _+_, _-_, max}
+use Prim.Native.Nat.{ℕ, _-_}
 use mathlib.Core.Bool.{cond}
 use mathlib.Core.List.{List, [], _∷_, _++_}
 use lib.ListN.{length}
@@ -12,12 +12,10 @@ use Rattle.journal.specs.Readings.{shown, stampOf}
 use Rattle.journal.specs.Entries.{Entry, keep}
 use Rattle.evaluation.specs.Evaluation.{evaluationOf}
 use Rattle.values.specs.declared.Measurement.{Measurement}
-use Rattle.service.specs.Group.{Group, placeFor, readingsOf, readingsFor, Call, Submission, Clear, Evaluation, Seen, After}
-use Rattle.service.specs.Refusals.{repeats, submissionVerdict, clearVerdict, evaluationVerdict}
-
--- a new entry's stamp: the greater of the clock and the last stamp + 1
-abbrev pub nextStamp : (clock last : ℕ) → ℕ
-nextStamp clock last = max clock (last + 1)
+use Rattle.group.specs.Group.{Group, placeFor, readingsOf, readingsFor}
+use Rattle.service.specs.Call.{Call, Submission, Clear, Evaluation, Seen, After}
+use Rattle.group.specs.Refusals.{repeats, submissionVerdict, clearVerdict, evaluationVerdict}
+use Rattle.group.specs.Stamps.{nextStamp}
 
 -- an accepted call that returns a number and was lent no list
 abbrev pub returned : ℕ → Seen

@@ -12,7 +12,7 @@ use Rattle.service.specs.declared.Fresh.{Fresh}
 use Rattle.service.specs.declared.Submitted.{Submitted}
 use Rattle.service.specs.declared.Cleared.{Cleared}
 use Rattle.service.specs.declared.Evaluated.{Evaluated}
-use Rattle.service.specs.Group.{Submission, Clear, Evaluation, Seen}
+use Rattle.service.specs.Call.{Submission, Clear, Evaluation, Seen}
 use Rattle.service.specs.Record.{freshService, zeroService, callOn}
 
 -- a fresh service is refused by 15 where its registration is damaged, with a record of zeros

@@ -5,8 +5,9 @@ use mathlib.Core.Bool.{true, false}
 use mathlib.Core.List.{List, []}
 use lib.ListN.{length}
 use Rattle.service.specs.declared.Service.{Service}
-use Rattle.service.specs.Group.{Group, Call, Submission, Clear, Evaluation, refused}
-use Rattle.service.specs.Refusals.{damaged}
+use Rattle.group.specs.Group.{Group}
+use Rattle.service.specs.Call.{Call, Submission, Clear, Evaluation, refused}
+use Rattle.group.specs.Refusals.{damaged}
 use Rattle.service.specs.Calls.{step}
 use Rattle.service.specs.Record.{callOn}
 
@@ -53,9 +54,3 @@ ClearGoesOn =
     → let after = step last G (Clear day stamp) in
     refused (after .seen) ≡ false
     → (G .keptday ≤ after .group .keptday) × (G .keptstamp ≤ after .group .keptstamp) × (after .group .keptstamp ≤ after .last)
-
--- no day of the four weeks before one that is evaluated is cleared; 28 stands here as a number, so that the law does not follow the definition
-abbrev pub FourWeeksKept : Type 0
-FourWeeksKept =
-    (last : ℕ) (G : Group) (day quarter T : ℕ) (lent : List ℕ) → refused (step last G (Evaluation day quarter T lent) .seen) ≡ false
-    → (before : ℕ) → day ≤ before + 28 → G .keptday ≤ before

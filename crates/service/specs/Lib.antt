@@ -1,7 +1,5 @@
-pub mod Group
-pub mod Refusals
+pub mod Call
 pub mod Calls
 pub mod Record
 pub mod Contracts
 pub mod Laws
-pub mod Working

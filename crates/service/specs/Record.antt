@@ -6,11 +6,13 @@ use Rattle.answers.specs.declared.Verdict.{Verdict}
 use Rattle.answers.specs.declared.Verdict.the-variants.{Accepted, Refused}
 use Rattle.registration.specs.declared.Registration.{Registration}
 use Rattle.registration.specs.Damage.{empty}
-use Rattle.journal.specs.Stored.{entries, written}
-use Rattle.service.specs.declared.Numbers.{Numbers}
+use Rattle.journal.specs.Stored.{written}
+use Rattle.group.specs.declared.Numbers.{Numbers}
+use Rattle.group.specs.Group.{Group}
+use Rattle.group.specs.Held.{groupIn, numbersOf}
 use Rattle.service.specs.declared.State.{State}
 use Rattle.service.specs.declared.Service.{Service}
-use Rattle.service.specs.Group.{Group, Call, Seen, After}
+use Rattle.service.specs.Call.{Call, Seen, After}
 use Rattle.service.specs.Calls.{step}
 
 -- no entries, kept stamp 0, kept day 0
@@ -33,24 +35,9 @@ zeroService = freshService empty
 abbrev pub recordOf : Registration → (last : ℕ) → Numbers → Service
 recordOf r last numbers = record { registration = r; state = record { last = last; numbers = numbers } }
 
--- the group that a registration, its numbers and a journal hold
-abbrev pub groupIn : Registration → Numbers → List ℕ → Group
-groupIn r numbers j =
-    record {
-      registration = r;
-      keptstamp = numbers .«kept_stamp»;
-      keptday = numbers .«kept_day»;
-      entries = entries (numbers .entries) j;
-      room = length j;
-    }
-
 -- the group that record and journal hold
 abbrev pub groupOf : Service → List ℕ → Group
 groupOf s j = groupIn (s .registration) (s .state .numbers) j
-
--- the numbers of a group
-abbrev pub numbersOf : Group → Numbers
-numbersOf G = record { «kept_stamp» = G .keptstamp; «kept_day» = G .keptday; entries = length (G .entries) }
 
 -- the record's changing part, for a last stamp and a group
 abbrev pub stateOf : (last : ℕ) → Group → State

@@ -3,18 +3,9 @@ ghost use mathlib.Core.Path.{_≡_};
 ghost use Rattle.service.specs.Record.{zeroService, recordOf, withState};
 ghost use Rattle.service.specs.Contracts.{freshOf, Submits, Clears, Evaluates};
 use answers::Verdict;
+use group::Numbers;
 use registration::Registration;
 use values::Measurement;
-
-mod refusals;
-
-// What is kept of a group beside its registration and its journal: kept stamp P, kept day K, and how many entries the journal has.
-#[repr(C)]
-pub struct Numbers {
-    pub kept_stamp: u64,
-    pub kept_day: u64,
-    pub entries: usize,
-}
 
 // What changes of the record: the last stamp given, which is not the group's own, and the group's numbers.
 #[repr(C)]
@@ -54,16 +45,6 @@ pub struct Evaluated {
     pub rounds: usize,
 }
 
-// What is looked up for a submission: whether it is a repeat, the stamp that it returns, and the place and the number of its entry; zeros where it is
-// refused.
-pub struct Looked {
-    pub verdict: Verdict,
-    pub repeat: bool,
-    pub stamp: u64,
-    pub place: u64,
-    pub stored: u64,
-}
-
 // What a submission leaves: last stamp and numbers, and the answer.
 pub struct SubmitStep {
     pub state: State,
@@ -78,10 +59,10 @@ pub struct ClearStep {
 
 impl Service {
     // The greatest stamp and clock.
-    pub const STAMP_MOST: u64 = 999999999999;
+    pub const STAMP_MOST: u64 = group::STAMP_MOST;
 
     // How many days before an evaluated one must not be cleared, if any day is.
-    pub const DAYS_BEFORE: u64 = 28;
+    pub const DAYS_BEFORE: u64 = group::DAYS_BEFORE;
 
     // A record of zeros, as refused calls return it.
     pub fn empty() -> Service
@@ -184,7 +165,7 @@ pub fn submit(
 ) -> SubmitStep
     ensures { λ r. ⌜ Submits (recordOf registration last numbers) (now (journal .entry)) clock measurement (withState (recordOf registration last numbers) (r .state)) (r .submitted) (now (journal .exit)) ⌝ }
 {
-    let looked = refusals::look(registration, last, numbers, journal, clock, measurement);
+    let looked = group::look(registration, last, numbers, journal, clock, measurement);
     let verdict = looked.verdict;
     let stamp = looked.stamp;
     let submitted = Submitted { verdict, stamp };
@@ -224,7 +205,7 @@ pub fn clear(
 ) -> ClearStep
     ensures { λ r. ⌜ Clears (recordOf registration last numbers) (now (journal .entry)) day stamp (withState (recordOf registration last numbers) (r .state)) (r .cleared) (now (journal .exit)) ⌝ }
 {
-    let verdict = refusals::clear_verdict(registration, last, numbers, journal, day, stamp);
+    let verdict = group::clear_verdict(registration, last, numbers, journal, day, stamp);
     if let Verdict::Refused(refusal) = verdict {
         return ClearStep {
             state: State { last, numbers },
@@ -264,7 +245,7 @@ pub fn evaluate(
 ) -> Evaluated
     ensures { λ r. ⌜ Evaluates (recordOf registration last numbers) (now (journal .entry)) day quarter until (now (result .entry)) r (now (result .exit)) ⌝ }
 {
-    let verdict = refusals::evaluation_verdict(
+    let verdict = group::evaluation_verdict(
         registration,
         last,
         numbers,

@@ -14,7 +14,7 @@ use Rattle.registration_text.specs.Reader.{readText}
 use Rattle.registration_text.specs.Writer.{textOf, verdictOfWriting, writtenIf, bufferAfter}
 use Rattle.values.specs.declared.Measurement.{Measurement}
 use Rattle.service.specs.declared.Service.{Service}
-use Rattle.service.specs.Group.{Submission, Clear, Evaluation, Seen}
+use Rattle.service.specs.Call.{Submission, Clear, Evaluation, Seen}
 use Rattle.service.specs.Record.{callOn}
 use Rattle.service.specs.Contracts.{freshIf}
 use Rattle.share_c.specs.declared.Read.{Read}

@@ -3,7 +3,7 @@ use native.Mathlib.Omega.{arith}
 use mathlib.Core.Path.{refl, sym, _∙_}
 use Rattle.journal.proofs.Stored.{length-entries}
 use Rattle.journal.specs.Stored.{entries}
-use Rattle.service.proofs.Undamaged.{few-points, right-for, fits-of}
+use Rattle.group.proofs.Undamaged.{few-points, right-for, fits-of}
 use Rattle.journal.proofs.Kept.{length-keep}
 use Rattle.service.proofs.Cores.{clear-sound, clears-refused, clears-accepted}
 use borrow.Author.Needs.{needs}

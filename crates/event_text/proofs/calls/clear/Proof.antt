@@ -1,6 +1,6 @@
 -- `event_text::calls::clear` meets its contract. Assumes nothing.
 use Prim.Native.Nat.{ℕ}
-use Rattle.service.specs.Group.{Clear as ClearUp}
+use Rattle.service.specs.Call.{Clear as ClearUp}
 use Rattle.event_reader.specs.declared.Event.the-variants.{Clear}
 use Rattle.event_text.proofs.Replying.{no-call, replies-refusal, replies-clear}
 use borrow.Author.Needs.{needs}

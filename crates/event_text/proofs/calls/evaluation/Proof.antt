@@ -2,7 +2,7 @@
 use Prim.Native.Nat.{ℕ}
 use mathlib.Core.Path.{ap}
 use native.Mathlib.Omega.{arith}
-use Rattle.service.specs.Group.{Evaluation as Evaluate}
+use Rattle.service.specs.Call.{Evaluation as Evaluate}
 use Rattle.event_reader.specs.declared.Event.the-variants.{Evaluation}
 use Rattle.event_writer.specs.Answers.{lineR}
 use Rattle.event_text.specs.Replies.{resultList}

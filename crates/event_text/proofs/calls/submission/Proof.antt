@@ -1,6 +1,6 @@
 -- `event_text::calls::submission` meets its contract. Assumes nothing.
 use Prim.Native.Nat.{ℕ}
-use Rattle.service.specs.Group.{Submission as Submit}
+use Rattle.service.specs.Call.{Submission as Submit}
 use Rattle.event_reader.specs.declared.Event.the-variants.{Submission}
 use Rattle.event_text.specs.Replies.{measured}
 use Rattle.event_text.proofs.Replying.{no-call, replies-refusal, replies-submission}

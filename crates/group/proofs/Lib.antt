@@ -1,0 +1,7 @@
+pub mod Sound
+pub mod Undamaged
+pub mod Admitted
+pub mod Laws
+pub mod Verdicts
+pub mod Looking
+pub mod Told
