@@ -68,7 +68,7 @@ pub fn submission(
         quarter,
         value,
     };
-    let step = service.submit_value(journal, clock, measurement);
+    let step = service.submit(journal, clock, measurement);
     let state = step.state;
     let submitted = step.submitted;
     let verdict = submitted.verdict;
@@ -90,7 +90,7 @@ pub fn clear(
     let Day::Is(day) = calendar::day_of(date) else {
         return no_call(service.state, out, Refusal::NoSuchDay);
     };
-    let step = service.clear_value(journal, day, stamp);
+    let step = service.clear(journal, day, stamp);
     let state = step.state;
     let cleared = step.cleared;
     let verdict = cleared.verdict;

@@ -95,12 +95,7 @@ impl Service {
     }
 
     // A submission on a record by value: the journal is altered in place, and the record's changing part is returned.
-    pub fn submit_value(
-        self,
-        journal: &mut [u64],
-        clock: u64,
-        measurement: Measurement,
-    ) -> SubmitStep
+    pub fn submit(self, journal: &mut [u64], clock: u64, measurement: Measurement) -> SubmitStep
         ensures { λ r. ⌜ Submits self (now (journal .entry)) clock measurement (withState self (r .state)) (r .submitted) (now (journal .exit)) ⌝ }
     {
         let state = self.state;
@@ -115,7 +110,7 @@ impl Service {
     }
 
     // A clear on a record by value.
-    pub fn clear_value(self, journal: &mut [u64], day: u64, stamp: u64) -> ClearStep
+    pub fn clear(self, journal: &mut [u64], day: u64, stamp: u64) -> ClearStep
         ensures { λ r. ⌜ Clears self (now (journal .entry)) day stamp (withState self (r .state)) (r .cleared) (now (journal .exit)) ⌝ }
     {
         let state = self.state;

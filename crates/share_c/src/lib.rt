@@ -120,7 +120,7 @@ fn submit_value(
 ) -> SubmitStep
     ensures { λ r. ⌜ SubmitLeaves service (now (journal .entry)) clock measurement (withState service (r .state)) (r .submitted) (now (journal .exit)) ⌝ }
 {
-    let done = service.submit_value(journal, clock, measurement);
+    let done = service.submit(journal, clock, measurement);
     let state = done.state;
     let given = done.submitted;
     let verdict = given.verdict;
@@ -151,7 +151,7 @@ pub extern "C" fn share_submit(
 fn clear_value(service: Service, journal: &mut [u64], day: u64, stamp: u64) -> ClearStep
     ensures { λ r. ⌜ ClearLeaves service (now (journal .entry)) day stamp (withState service (r .state)) (r .cleared) (now (journal .exit)) ⌝ }
 {
-    let done = service.clear_value(journal, day, stamp);
+    let done = service.clear(journal, day, stamp);
     let state = done.state;
     let given = done.cleared;
     let verdict = given.verdict;

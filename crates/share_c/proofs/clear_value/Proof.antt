@@ -4,8 +4,8 @@ use Rattle.share_c.proofs.Numbers.{clear-numbers}
 use Rattle.share_c.proofs.clear_value.Statement.{statement}
 use Rattle.share_c.proofs.clear_value.Tie as tie
 
-clear-value-requires : tie.Need-clear-value-requires
-clear-value-requires c κs = search needs
+clear-requires : tie.Need-clear-requires
+clear-requires c κs = search needs
 
 answer-requires : tie.Need-answer-requires
 answer-requires c κs = search needs
@@ -14,7 +14,7 @@ same-length : tie.Need-same-length
 same-length c = search needs
 
 returns : tie.Need-returns
-returns c = clear-numbers _ _ _ _ _ _ _ _ (c .before .before .before .before .before .clear-value .ensures) (c .answer .ensures)
+returns c = clear-numbers _ _ _ _ _ _ _ _ (c .before .before .before .before .before .clear .ensures) (c .answer .ensures)
 
 pub clear-value-spec : {M : Type 1} → statement M
-clear-value-spec = tie.close (tie.spec clear-value-requires answer-requires same-length returns)
+clear-value-spec = tie.close (tie.spec clear-requires answer-requires same-length returns)

@@ -4,8 +4,8 @@ use Rattle.share_c.proofs.Numbers.{submit-numbers}
 use Rattle.share_c.proofs.submit_value.Statement.{statement}
 use Rattle.share_c.proofs.submit_value.Tie as tie
 
-submit-value-requires : tie.Need-submit-value-requires
-submit-value-requires c κs = search needs
+submit-requires : tie.Need-submit-requires
+submit-requires c κs = search needs
 
 answer-requires : tie.Need-answer-requires
 answer-requires c κs = search needs
@@ -14,7 +14,7 @@ same-length : tie.Need-same-length
 same-length c = search needs
 
 returns : tie.Need-returns
-returns c = submit-numbers _ _ _ _ _ _ _ _ (c .before .before .before .before .before .submit-value .ensures) (c .answer .ensures)
+returns c = submit-numbers _ _ _ _ _ _ _ _ (c .before .before .before .before .before .submit .ensures) (c .answer .ensures)
 
 pub submit-value-spec : {M : Type 1} → statement M
-submit-value-spec = tie.close (tie.spec submit-value-requires answer-requires same-length returns)
+submit-value-spec = tie.close (tie.spec submit-requires answer-requires same-length returns)

@@ -31,8 +31,8 @@ returns c =
     let none = no-call (a .date) (λ (day : ℕ). ClearUp day (a .stamp)) (day .day-of .ensures) (told .enum-told .given .1) in
     replies-refusal _ _ (Clear (a .date) (a .stamp)) none (put .no-call .ensures .0) (put .no-call .ensures .1)
 
-clear-value-requires : tie.Need-clear-value-requires
-clear-value-requires c κs = search needs
+clear-requires : tie.Need-clear-requires
+clear-requires c κs = search needs
 
 answer-requires : tie.Need-answer-requires
 answer-requires c κs = search needs
@@ -56,7 +56,7 @@ returns-2 c =
     let is = made .before .before .before in
     let day = is .before .before in
     let a = day .before .before .before .args in
-    replies-clear _ _ (a .date) (day .day-of .ensures) (is .day .given .1) _ _ _ (made .clear-value .ensures)
+    replies-clear _ _ (a .date) (day .day-of .ensures) (is .day .given .1) _ _ _ (made .clear .ensures)
     (put .before .answer .ensures) (put .put-answer .ensures) (c .answered .ensures)
 
 pub clear-spec : {M : Type 1} → statement M
@@ -69,7 +69,7 @@ clear-spec =
     no-call-requires
     same-length
     returns
-    clear-value-requires
+    clear-requires
     answer-requires
     put-answer-requires
     answered-requires

@@ -32,8 +32,8 @@ returns c =
     let none = no-call (a .date) (λ (day : ℕ). Submit (a .clock) (measured (a .code) (a .quarter) (a .value) day)) (day .day-of .ensures) (told .enum-told .given .1) in
     replies-refusal _ _ (Submission (a .clock) (a .code) (a .date) (a .quarter) (a .value)) none (put .no-call .ensures .0) (put .no-call .ensures .1)
 
-submit-value-requires : tie.Need-submit-value-requires
-submit-value-requires c κs = search needs
+submit-requires : tie.Need-submit-requires
+submit-requires c κs = search needs
 
 answer-requires : tie.Need-answer-requires
 answer-requires c κs = search needs
@@ -58,7 +58,7 @@ returns-2 c =
     let day = is .before .before in
     let start = day .before .before .before in
     let a = start .args in
-    replies-submission _ _ (a .date) (day .day-of .ensures) (is .day .given .1) _ _ _ _ _ _ (start .fits .value) (made .submit-value .ensures)
+    replies-submission _ _ (a .date) (day .day-of .ensures) (is .day .given .1) _ _ _ _ _ _ (start .fits .value) (made .submit .ensures)
     (put .before .answer .ensures) (put .put-answer .ensures) (c .answered .ensures)
 
 pub submission-spec : {M : Type 1} → statement M
@@ -71,7 +71,7 @@ submission-spec =
     no-call-requires
     same-length
     returns
-    submit-value-requires
+    submit-requires
     answer-requires
     put-answer-requires
     answered-requires
