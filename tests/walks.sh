@@ -34,4 +34,4 @@ mkdir "$folder/crates/other"
 cp "$walk" "$folder/crates/other/Proof.antt"
 finds "a walk that the table does not list"
 echo "walks.sh: $found changes found in a copy"
-[ "$found" -gt 0 ] && [ "$bad" -eq 0 ]
+[ "$found" -eq 3 ] && [ "$bad" -eq 0 ]

@@ -27,7 +27,8 @@
 #         ensures { λ r. ⌜ Contract service (now (journal .entry)) a b (withState service (r .state)) (r .answer) (now (journal .exit)) ⌝ }
 #
 # with struct Step { state: State, answer: Answer }, in this order. The parameters after the record are numbers, slices of unsigned numbers, lent to be
-# read or to be altered, and structs by value, in any order. Neither function has a `requires`. Both stand in one crate; each struct may be declared in any.
+# read or to be altered, and structs by value, in any order; what no row of the table has is written and has not been checked. Neither function has a
+# `requires`. Both stand in one crate; each struct may be declared in any.
 import argparse
 import dataclasses
 import pathlib
@@ -719,7 +720,7 @@ def path_of(walk):
 
 # What a file holds, nothing where there is none.
 def held(path):
-    return path.read_text(encoding="utf-8") if path.exists() else ""
+    return path.read_bytes().decode("utf-8") if path.exists() else ""
 
 
 # Writes every walk.

@@ -5,8 +5,7 @@ use mathlib.Core.Path.{_≡_, refl, _∙_}
 use mathlib.Core.Bool.{true, false}
 use mathlib.Core.List.{[], _∷_, append-nil}
 use lib.Dec.{eqb}
-use lib.ListN.{length, length-append}
-use borrow.Author.Tests.{lt-ltb, le-leb}
+use lib.ListN.{length}
 use Rattle.lists.proofs.Cases.{by-test}
 use Rattle.values.specs.declared.Measurement.{Measurement}
 use Rattle.calendar.proofs.Laws.{exists-day, exists-quarter}

@@ -1,7 +1,5 @@
--- A refused call alters nothing; no call alters the journal's length or the registration; a clear sets nothing back, and leaves the weeks that a mean
--- needs. Assumes nothing.
-use Prim.Native.Nat.{ℕ, zero, suc, _+_, _≤_}
-use native.Mathlib.Omega.{arith}
+-- A refused call alters nothing; no call alters the journal's length or the registration; a clear sets nothing back. Assumes nothing.
+use Prim.Native.Nat.{ℕ}
 use mathlib.Core.Path.{_≡_, refl, sym, ap, _∙_}
 use mathlib.Core.Bool.{true, false≢true}
 use mathlib.Core.List.{List, []}
@@ -10,14 +8,14 @@ use Rattle.answers.specs.declared.Verdict.the-variants.{Accepted, Refused}
 use Rattle.service.specs.declared.Service.{Service}
 use Rattle.group.specs.Group.{Group}
 use Rattle.service.specs.Call.{Seen, After, isRefused, refused}
-use Rattle.group.specs.Refusals.{earliest, clearVerdict}
+use Rattle.group.specs.Refusals.{clearVerdict}
 use Rattle.service.specs.Calls.{cleared, step}
 use Rattle.service.specs.Record.{groupOf, writtenBack, callOn}
 use Rattle.service.specs.Laws.{lentBy, RefusedAltersNothing, LengthStays, ClearGoesOn}
 use Rattle.service.proofs.Leaves.{Untouched, Leaves, leaves}
 use Rattle.service.proofs.ReadAgain.{through}
 use Rattle.service.proofs.Accepted.{accepted-verdict}
-use Rattle.group.proofs.Admitted.{clearing, evaluating}
+use Rattle.group.proofs.Admitted.{clearing}
 
 -- a refused call writes nothing back
 nothing-written : (verdict : Verdict) (s : Service) (j : List ℕ) (after : After) → isRefused verdict ≡ true

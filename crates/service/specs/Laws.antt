@@ -1,5 +1,5 @@
 -- What users of the service rely on beside demand 3, stated of its definitions; the proofs stand in proofs/Laws.antt, Evaluating.antt and Staying.antt. Assumes nothing.
-use Prim.Native.Nat.{ℕ, _+_, _≤_}
+use Prim.Native.Nat.{ℕ, _≤_}
 use mathlib.Core.Path.{_≡_}
 use mathlib.Core.Bool.{true, false}
 use mathlib.Core.List.{List, []}
