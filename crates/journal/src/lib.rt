@@ -1,11 +1,12 @@
 // The journal: a lent list of numbers, three an entry: stamp, place, and the magnitude that is stored.
 ghost use mathlib.Core.Path.{_≡_};
 ghost use mathlib.Core.Bool.{_&&_};
-ghost use Prim.Native.Nat.{ℕ, _+_, _*_, _≤_};
+ghost use Prim.Native.Nat.{ℕ, _+_, _*_, _/_, _%_, _≤_, _<_};
 ghost use lib.ListN.{length};
 ghost use lib.Dec.{leb, eqb};
 ghost use Rattle.lists.specs.Place.{placed};
 ghost use Rattle.calendar.specs.Dates.{lastDay};
+ghost use Rattle.calendar.specs.Quarters.{quarterExists};
 ghost use Rattle.journal.specs.Readings.{shown};
 ghost use Rattle.journal.specs.Entries.{pointPlaces, placeOf, readingsAt};
 ghost use Rattle.journal.specs.Stored.{entries, numbers};
@@ -70,6 +71,18 @@ pub fn put(journal: &mut [u64], i: usize, stamp: u64, place: u64, stored: u64)
     journal[at + 2] = stored;
 }
 
+// Whether a day has a quarter, both as one number, day × 100 + quarter − 1. Every day has the first 92, so only for later ones the calendar is asked.
+fn quarter_right(slot: u64) -> bool
+    requires { ⌜ slot < pointPlaces ⌝ }
+    ensures { λ r. ⌜ r ≡ quarterExists (slot / 100) (slot % 100 + 1) ⌝ }
+{
+    let quarter = slot % 100 + 1;
+    if quarter <= 92 {
+        return true;
+    }
+    calendar::exists(slot / 100, quarter)
+}
+
 // Whether an entry is right, but for its stamp: its point, by the first place that is no point's, its day, by the first place of the kept day, its
 // quarter and its magnitude.
 fn entry_right(place: u64, stored: u64, end: u64, first: u64) -> bool
@@ -82,7 +95,7 @@ fn entry_right(place: u64, stored: u64, end: u64, first: u64) -> bool
     if slot < first {
         return false;
     }
-    if !calendar::exists(slot / 100, slot % 100 + 1) {
+    if !quarter_right(slot) {
         return false;
     }
     stored <= values::MAGNITUDE_MOST

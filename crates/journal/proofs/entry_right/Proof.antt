@@ -13,23 +13,20 @@ returns c = λ points K e f. wrong-point points K _ (beyond-points points K _ (o
 returns-2 : tie.Need-returns-2
 returns-2 c = λ points K e f. wrong-day points K _ (before-day points K _ (omega (arith, f, c .if2 .taken)))
 
-add-exists : tie.Need-add-exists
-add-exists c = search needs
-
-exists-requires : tie.Need-exists-requires
-exists-requires c κs = search needs
+quarter-right-requires : tie.Need-quarter-right-requires
+quarter-right-requires c κs = search needs
 
 returns-3 : tie.Need-returns-3
 returns-3 c = λ points K e f.
-    wrong-quarter points K _ (sym (c .before .exists .ensures ∙ slot-quarters _) ∙ not-true _ (c .if3 .taken))
+    wrong-quarter points K _ (sym (c .before .quarter-right .ensures ∙ slot-quarters _) ∙ not-true _ (c .if3 .taken))
 
 returns-4 : tie.Need-returns-4
 returns-4 c = λ points K e f.
     let day = c .before .before in
     stored-left points K _
     (within-points points K _ (omega (arith, e, day .before .if1 .left))) (from-day points K _ (omega (arith, f, day .if2 .left)))
-    (sym (c .before .exists .ensures ∙ slot-quarters _) ∙ not-false _ (c .if3 .left))
+    (sym (c .before .quarter-right .ensures ∙ slot-quarters _) ∙ not-false _ (c .if3 .left))
 
 pub entry-right-spec : {M : Type 1} → statement M
 entry-right-spec =
-    tie.close (tie.spec returns returns-2 add-exists exists-requires returns-3 returns-4)
+    tie.close (tie.spec returns returns-2 quarter-right-requires returns-3 returns-4)
