@@ -12,7 +12,8 @@ use Rattle.lists.specs.Below.{sumBelow}
 use Rattle.registration.specs.Rules.{countAt, sourceAt}
 use Rattle.lists.proofs.Below.{sum-same}
 use Rattle.allocation.specs.Input.{Shareable}
-use Rattle.allocation.specs.Rounds.{Remaining, withdrawalAt, leftAt, offerIn, shareIn, ofProducer, roundOf}
+use Rattle.registration.specs.Pairs.{ofProducer}
+use Rattle.allocation.specs.Rounds.{Remaining, withdrawalAt, leftAt, offerIn, shareIn, roundOf}
 use Rattle.allocation.specs.Working.{remainingIn, RoundMade}
 use Rattle.allocation.proofs.Shareable.{pair-of}
 use Rattle.allocation.proofs.Turns.{offerFor, shareFor, takenFor, Fallen, Given}

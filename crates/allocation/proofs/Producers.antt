@@ -12,7 +12,8 @@ use Rattle.registration.specs.Rules.{countAt, sourceAt, keyAt, keysOf}
 use Rattle.lists.proofs.Below.{every-at, sum-same}
 use Rattle.registration.proofs.Keys.{keyFor}
 use Rattle.allocation.specs.Input.{Shareable}
-use Rattle.allocation.specs.Rounds.{Remaining, supplyAt, shareIn, ofProducer, roundOf}
+use Rattle.registration.specs.Pairs.{ofProducer}
+use Rattle.allocation.specs.Rounds.{Remaining, supplyAt, shareIn, roundOf}
 use Rattle.allocation.proofs.Shareable.{few-points, count-most}
 use Rattle.lists.proofs.Sums.{sum-add, chosen-add, rows-within}
 

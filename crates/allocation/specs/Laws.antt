@@ -6,7 +6,8 @@ use lib.ListN.{getD}
 use Rattle.registration.specs.declared.Registration.{Registration}
 use Rattle.registration.specs.Rules.{sourceAt, keyAt}
 use Rattle.registration.specs.Damage.{isDamaged}
-use Rattle.allocation.specs.Rounds.{Remaining, withdrawalAt, supplyAt, ofConsumer, ofProducer, shareIn, afterRounds, received}
+use Rattle.registration.specs.Pairs.{ofConsumer, ofProducer}
+use Rattle.allocation.specs.Rounds.{Remaining, withdrawalAt, supplyAt, shareIn, afterRounds, received}
 use Rattle.allocation.specs.Result.{startOf, roundsFor, allocationOf}
 use Rattle.allocation.specs.Input.{Shareable}
 

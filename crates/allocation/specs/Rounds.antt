@@ -9,6 +9,7 @@ use Rattle.lists.specs.Tables.{table}
 use Rattle.registration.specs.declared.Registration.{Registration}
 use Rattle.lists.specs.Below.{sumBelow}
 use Rattle.registration.specs.Rules.{countAt, sourceAt, keyAt}
+use Rattle.registration.specs.Pairs.{ofProducer}
 
 -- how many rounds there are: with iteration 1 and at most 50 points the smaller of 5 and the number of consumers, otherwise 1
 unfoldable pub roundsOf : (iteration points consumers : ℕ) → ℕ
@@ -56,17 +57,6 @@ offerIn r start consumer = offerAt (sourceAt r consumer) (keyAt r consumer) (sup
 -- a pair's share in a round that starts with these remainders, the pair given by consumer and priority
 abbrev pub shareIn : Registration → Remaining → ℕ → ℕ → ℕ
 shareIn r start consumer priority = shareAt (offerIn r start consumer) (withdrawalAt start consumer) priority
-
--- the sum of a consumer's pairs
-abbrev pub ofConsumer : Registration → (ℕ → ℕ → ℕ) → ℕ → ℕ
-ofConsumer r share consumer = sumBelow (share consumer) (countAt r consumer)
-
--- the sum of a producer's pairs: over all consumers and the priorities at which they name it
-abbrev pub ofProducer : Registration → (ℕ → ℕ → ℕ) → ℕ → ℕ
-ofProducer r share producer =
-    sumBelow
-    (λ consumer. sumBelow (λ priority. cond (eqb (sourceAt r consumer priority) (producer + 1)) (share consumer priority) 0) (countAt r consumer))
-    (r .consumers)
 
 -- a round: every consumer goes through its producers by priority; when the round ends each supply falls by all shares taken from it
 unfoldable pub roundOf : Registration → Remaining → Remaining

@@ -13,7 +13,8 @@ use Rattle.lists.specs.Below.{every, sumBelow, differ}
 use Rattle.registration.specs.Code.{isCode, weighted}
 use Rattle.registration.specs.Rules.{pairsRight}
 use Rattle.registration.specs.Damage.{isDamaged}
-use Rattle.allocation.specs.Rounds.{withdrawalAt, roundsOf, leftAt, offerIn, shareIn, roundOf, afterRounds, received, ofConsumer, ofProducer}
+use Rattle.registration.specs.Pairs.{ofConsumer, ofProducer}
+use Rattle.allocation.specs.Rounds.{withdrawalAt, roundsOf, leftAt, offerIn, shareIn, roundOf, afterRounds, received}
 use Rattle.allocation.specs.Result.{startOf, pairsOf, roundsFor}
 use Rattle.evaluation.specs.Mean.{sumOf, nearest, meanOf}
 use Rattle.case_table.proofs.Same.{same}

@@ -17,7 +17,8 @@ use Rattle.allocation.proofs.Laws.{undamaged-is-shareable, allocation-lengths}
 use Rattle.allocation.proofs.Shareable.{few-points, count-most, count-within}
 use Rattle.evaluation.specs.Substitutes.{magnitudeOf}
 use Rattle.evaluation.specs.Evaluation.{evaluationOf}
-use Rattle.evaluation.specs.Layout.{Shares, Withdrawals, Supplies, pairsIn, HasLengths}
+use Rattle.registration.specs.Pairs.{pairsIn}
+use Rattle.evaluation.specs.Layout.{Shares, Withdrawals, Supplies, HasLengths}
 use Rattle.evaluation.specs.Laws.{MeanIsNearest, PartLengths, ResultSize, PartsStand, ResultWithinMost}
 use Rattle.evaluation.proofs.Nearest.{nearest-some}
 use Rattle.evaluation.proofs.Parts.{size-of-parts, part-stands}

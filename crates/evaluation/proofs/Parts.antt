@@ -20,7 +20,8 @@ use Rattle.allocation.specs.declared.Allocated.{Allocated}
 use Rattle.allocation.specs.Result.{Allocation}
 use Rattle.allocation.specs.Working.{allocationIn}
 use Rattle.allocation.proofs.Laws.{pairs-length}
-use Rattle.evaluation.specs.Layout.{Part, Shares, Withdrawals, Supplies, pairsBefore, pairsIn, beginOf, sizeOf, partIn, partOf, resultOf, HasLengths}
+use Rattle.registration.specs.Pairs.{pairsBefore, pairsIn}
+use Rattle.evaluation.specs.Layout.{Part, Shares, Withdrawals, Supplies, beginOf, sizeOf, partIn, partOf, resultOf, HasLengths}
 
 -- the shares of a consumer are among those of all consumers
 pub shares-there : (r : Registration) (consumer : ℕ) → consumer < r .consumers → pairsBefore r consumer + countAt r consumer ≤ pairsIn r

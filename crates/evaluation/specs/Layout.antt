@@ -3,10 +3,9 @@ use Prim.Native.Nat.{ℕ, _+_}
 use mathlib.Core.Path.{_≡_}
 use mathlib.Core.List.{List, _++_}
 use lib.ListN.{length, take, drop}
-use Rattle.lists.specs.Below.{sumBelow}
 use Rattle.lists.specs.Place.{placed}
 use Rattle.registration.specs.declared.Registration.{Registration}
-use Rattle.registration.specs.Rules.{countAt}
+use Rattle.registration.specs.Pairs.{pairsIn}
 use Rattle.allocation.specs.Result.{Allocation}
 use Rattle.evaluation.specs.declared.Layout.{Layout}
 
@@ -15,14 +14,6 @@ pub data Part : Type 0 where
   Shares : Part
   Withdrawals : Part
   Supplies : Part
-
--- how many pairs the consumers before one have, each with the producers that it names: its own shares stand after theirs
-abbrev pub pairsBefore : Registration → ℕ → ℕ
-pairsBefore r consumer = sumBelow (countAt r) consumer
-
--- how many pairs a group has
-abbrev pub pairsIn : Registration → ℕ
-pairsIn r = pairsBefore r (r .consumers)
 
 -- how many numbers a part has: one for each pair, each consumer, each producer
 abbrev pub lengthOf : Registration → Part → ℕ

@@ -14,7 +14,8 @@ use Rattle.columns.specs.Fields.{fitting}
 use Rattle.registration.specs.declared.Registration.{Registration}
 use Rattle.allocation.specs.Input.{Shareable}
 use Rattle.allocation.proofs.Shareable.{few-points, pair-of}
-use Rattle.evaluation.specs.Layout.{Withdrawals, Supplies, pairsBefore, beginOf}
+use Rattle.registration.specs.Pairs.{pairsBefore}
+use Rattle.evaluation.specs.Layout.{Withdrawals, Supplies, beginOf}
 use Rattle.evaluation.proofs.Parts.{shares-there}
 use Rattle.evaluation.proofs.ResultBounds.{ResultWithin}
 use Rattle.service.specs.Call.{Submission, Clear, Evaluation}

@@ -12,7 +12,8 @@ use Rattle.columns.specs.Fields.{fitting}
 use Rattle.lines.specs.Line.{firstLine, afterLine}
 use Rattle.registration.specs.declared.Registration.{Registration}
 use Rattle.registration.specs.Rules.{countAt, sourceAt}
-use Rattle.evaluation.specs.Layout.{Withdrawals, Supplies, pairsBefore, lengthOf, beginOf}
+use Rattle.registration.specs.Pairs.{pairsBefore}
+use Rattle.evaluation.specs.Layout.{Withdrawals, Supplies, lengthOf, beginOf}
 use Rattle.service.specs.declared.Service.{Service}
 use Rattle.service.specs.Call.{Call, Submission, Clear, Evaluation, Seen}
 use Rattle.service.specs.Record.{callOn}

@@ -15,7 +15,8 @@ use Rattle.lines.proofs.Laws.{length-line}
 use Rattle.registration.specs.declared.Registration.{Registration}
 use Rattle.registration.specs.Rules.{placeAt, countAt, sourceAt}
 use Rattle.evaluation.specs.declared.Layout.{Layout}
-use Rattle.evaluation.specs.Layout.{pairsBefore, pairsIn, LaidOut}
+use Rattle.registration.specs.Pairs.{pairsBefore, pairsIn}
+use Rattle.evaluation.specs.Layout.{LaidOut}
 use Rattle.event_writer.specs.Answers.{letterA, letterR, letterS, letterU, letterV, widthsA, widthsR, widthsS, widthsOfRemaining, lineA, bytesOfAnswer, lineR, bytesOfRounds, lineS, lineOfRemaining, linesOfConsumer, linesS, linesOfRemaining, linesOfResult, bytesOfResult}
 
 -- ---- the lines as pieces

@@ -6,7 +6,8 @@ use Rattle.lists.specs.Tables.{joined}
 use Rattle.lines.specs.Lines.{lineOf}
 use Rattle.registration.specs.declared.Registration.{Registration}
 use Rattle.registration.specs.Rules.{countAt, sourceAt}
-use Rattle.evaluation.specs.Layout.{Shares, Withdrawals, Supplies, pairsBefore, lengthOf, beginOf}
+use Rattle.registration.specs.Pairs.{pairsBefore}
+use Rattle.evaluation.specs.Layout.{Shares, Withdrawals, Supplies, lengthOf, beginOf}
 
 -- the letter A
 abbrev pub letterA : ℕ
