@@ -6,7 +6,8 @@ use Rattle.lists.proofs.TableLaws.{table-at}
 use Rattle.registration.specs.declared.Registration.{Registration}
 use Rattle.lists.specs.Below.{sumBelow}
 use Rattle.registration.specs.Rules.{countAt}
-use Rattle.allocation.specs.Rounds.{Remaining, withdrawalAt, leftAt, shareAt, offerIn, shareIn, ofConsumer, roundOf}
+use Rattle.registration.specs.Pairs.{ofConsumer}
+use Rattle.allocation.specs.Rounds.{Remaining, withdrawalAt, leftAt, shareAt, offerIn, shareIn, roundOf}
 
 -- the shares of one consumer's turn and what they leave add up to what it had
 pub turn-adds-up : (offer : ℕ → ℕ) (withdrawal count : ℕ) → sumBelow (shareAt offer withdrawal) count + leftAt offer withdrawal count ≡ withdrawal
