@@ -3,7 +3,8 @@ ghost use Prim.Native.Nat.{ℕ, _+_, _*_, _≤_, _<_};
 ghost use lib.ListN.{length};
 ghost use Rattle.lists.specs.Place.{Put};
 ghost use Rattle.registration.specs.Rules.{placeAt, countAt};
-ghost use Rattle.evaluation.specs.Layout.{pairsIn, sizeOf};
+ghost use Rattle.registration.specs.Pairs.{pairsIn};
+ghost use Rattle.evaluation.specs.Layout.{sizeOf};
 ghost use Rattle.event_writer.specs.Answers.{lineA, bytesOfAnswer, lineR, bytesOfRounds, linesOfConsumer, linesS, linesOfRemaining, linesOfResult, bytesOfResult};
 use registration::Registration;
 
