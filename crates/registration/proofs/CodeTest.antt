@@ -47,6 +47,7 @@ written d =
     d 0 + 3 * d 1 + 1 * d 2 + 3 * d 3 + 1 * d 4 + 3 * d 5 + 1 * d 6 + 3 * d 7 + 1 * d 8 + 3 * d 9 + 1 * d 10 + 3 * d 11 + 1 * d 12 + 3 * d 13
     + 1 * d 14 + 3 * d 15 + 1 * d 16 + 3 * d 17
 
+-- the weights of the definition are those written out
 weights : (d : ℕ → ℕ) → byDigits 17 3 (λ k. d (suc k)) + d 0 ≡ written d
 unfolding byDigits
 weights d = omega arith
@@ -55,6 +56,7 @@ weights d = omega arith
 check-sum : (code : ℕ) → checkSum code ≡ written (λ k. digit k code)
 check-sum code = rw (weighted-left, ← digit-last code) (weights (λ k. digit k code))
 
+-- what the test accepts is a true code, and it accepts every true code
 pub accepted-true : (code : ℕ) → isCode code ≡ true → TrueCode code
 accepted-true code t =
     let parts = code-parts code t in

@@ -74,6 +74,7 @@ check-differs digits weight a b (suc place) p q w s t h altered others =
     (λ i. altered (sym (digit-next place a) ∙ i ∙ digit-next place b))
     (λ k l n. digit-next k a ∙ others (suc k) (omega arith) (omega arith) ∙ sym (digit-next k b)) (omega arith)
 
+-- so of two numbers with one digit different at most one is a true code
 pub one-digit-false : (code other place : ℕ) → isCode code ≡ true → place < 18 → (digit place other ≡ digit place code → ⊥)
     → AgreeBut other code 18 place → isCode other ≡ false
 unfolding every
