@@ -34,6 +34,14 @@ unused-at r c t k h l =
     let b = both (eqb (sourceAt r c k) 0) (eqb (keyAt r c k) 0) (or-else (ltb k (countAt r c)) _ (le-ltb k (countAt r c) h) a) in
     (eqb-true (sourceAt r c k) 0 (b .0), eqb-true (keyAt r c k) 0 (b .1))
 
+-- a place among the places of pairs belongs to a consumer and a priority
+pub places : (xs : List ℕ) (n : ℕ) → ((c : ℕ) → n ≤ c → c < 64 → (k : ℕ) → k < 5 → getD xs (5 * c + k) 0 ≡ 0) → (i : ℕ) → 5 * n ≤ i → i < 320
+    → getD xs i 0 ≡ 0
+places xs n zeros i h l =
+    let q : 5 * (i / 5) + i % 5 ≡ i = div-add-mod i 5 in
+    let s : i % 5 < 5 = mod-lt i (omega arith) in
+    rw q at (zeros (i / 5) (omega arith) (omega arith) (i % 5) s)
+
 module _ (r : Registration) (undamaged : isDamaged r ≡ false) where
   pub zero-after : (zerosFrom 64 (points r) (r .codes) ≡ true) × (zerosFrom 64 (points r) (r .statuses) ≡ true)
       × (zerosFrom 64 (r .consumers) (r .counts) ≡ true) × (every (pairsUnused r) 64 ≡ true)
@@ -51,8 +59,4 @@ module _ (r : Registration) (undamaged : isDamaged r ≡ false) where
 
   -- a place after those of the last consumer belongs to a later one, which names no producer
   pub no-source : (place : ℕ) → 5 * r .consumers ≤ place → place < 320 → getD (r .sources) place 0 ≡ 0
-  no-source place h l =
-      let q : 5 * (place / 5) + place % 5 ≡ place = div-add-mod place 5 in
-      let s : place % 5 < 5 = mod-lt place (omega arith) in
-      let none = no-count (place / 5) (omega arith) (omega arith) in
-      rw q at (no-pairs (place / 5) (omega arith) (place % 5) (omega (arith, none)) s .0)
+  no-source = places (r .sources) (r .consumers) (λ c h l k m. no-pairs c l k (omega (arith, no-count c h l)) m .0)

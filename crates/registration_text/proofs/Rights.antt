@@ -1,28 +1,23 @@
 -- An undamaged registration: each line of its text has right numbers, and it has nothing behind what its lines say. Assumes nothing.
-use Prim.Native.Nat.{ℕ, _+_, _*_, _/_, _%_, _≤_, _<_}
+use Prim.Native.Nat.{ℕ, _+_, _*_, _≤_, _<_}
 use mathlib.Core.Path.{_≡_}
-use mathlib.Core.Bool.{Bool, true, false, _&&_, _||_}
+use mathlib.Core.Bool.{true, false, _&&_, _||_}
 use mathlib.Core.List.{List}
 use native.Mathlib.Omega.{arith}
-use native.Mathlib.Nat.{div-add-mod, mod-lt}
-use borrow.Author.Tests.{lt-ltb, le-ltb, leb-true, le-leb, eqb-true, eq-eqb}
+use borrow.Author.Tests.{lt-ltb, le-ltb, leb-true, le-leb, eq-eqb}
 use lib.Dec.{leb, ltb, eqb}
 use lib.ListN.{getD}
 use Rattle.lists.proofs.Below.{both}
 use Rattle.registration.specs.declared.Registration.{Registration}
-use Rattle.lists.specs.Below.{every}
 use Rattle.registration.specs.Code.{isCode}
 use Rattle.registration.specs.Rules.{points, codeAt, statusAt, countAt, sourceAt, keyAt, countRight, codesDiffer, consumerRight, keysRight}
 use Rattle.registration.specs.Damage.{zerosFrom, pairsUnused, isDamaged, Sized}
 use Rattle.lists.proofs.Below.{every-at, every-all}
+use Rattle.registration.proofs.Unused.{Unused, zeros-at, places, zero-after, no-pairs, no-count}
 use Rattle.registration.proofs.Damage.{Undamaged, undamaged-parts, parts-undamaged, point-bounds}
 use Rattle.registration_text.proofs.Fronts.{by-order, front-self, clean-zero}
 use Rattle.registration_text.proofs.States.{upToConsumer, said}
 use Rattle.registration_text.proofs.Steps.{GroupGood, PointGood, ConsumerGood}
-
--- after the producers that a consumer names there are zeros
-abbrev pub Unused : Registration → ℕ → Type 0
-Unused r c = (k : ℕ) → countAt r c ≤ k → k < 5 → (sourceAt r c k ≡ 0) × (keyAt r c k ≡ 0)
 
 -- what the lines of its text say is right, and there is nothing else in it
 pub record Right (r : Registration) : Type 0 where
@@ -34,28 +29,13 @@ pub record Right (r : Registration) : Type 0 where
   pub differ : codesDiffer r ≡ true
   pub keys : keysRight r ≡ true
 
--- a test that holds, where its first part does not
-or-else : (a b : Bool) → a ≡ false → a || b ≡ true → b ≡ true
-or-else a b e t = rw e at t
-
 module _ (size n : ℕ) (xs : List ℕ) where
-  zeros-at : zerosFrom size n xs ≡ true → (i : ℕ) → n ≤ i → i < size → getD xs i 0 ≡ 0
-  zeros-at t i h l =
-      eqb-true (getD xs i 0) 0
-      (or-else (ltb i n) (eqb (getD xs i 0) 0) (le-ltb i n h) (every-at (λ place. ltb place n || eqb (getD xs place 0) 0) size i t l))
-
   zeros-all : ((i : ℕ) → n ≤ i → getD xs i 0 ≡ 0) → zerosFrom size n xs ≡ true
   zeros-all zeros =
       every-all (λ place. ltb place n || eqb (getD xs place 0) 0) size
       (λ i h. by-order i n (λ l. rw (lt-ltb i n l)) (λ l. rw (le-ltb i n l, eq-eqb (getD xs i 0) 0 (zeros i l))))
 
 module _ (r : Registration) (c : ℕ) where
-  unused-at : pairsUnused r c ≡ true → Unused r c
-  unused-at t k h l =
-      let a = every-at (λ priority. ltb priority (countAt r c) || (eqb (sourceAt r c priority) 0 && eqb (keyAt r c priority) 0)) 5 k t l in
-      let b = both (eqb (sourceAt r c k) 0) (eqb (keyAt r c k) 0) (or-else (ltb k (countAt r c)) _ (le-ltb k (countAt r c) h) a) in
-      (eqb-true (sourceAt r c k) 0 (b .0), eqb-true (keyAt r c k) 0 (b .1))
-
   unused-all : Unused r c → pairsUnused r c ≡ true
   unused-all zeros =
       every-all (λ priority. ltb priority (countAt r c) || (eqb (sourceAt r c priority) 0 && eqb (keyAt r c priority) 0)) 5
@@ -64,31 +44,9 @@ module _ (r : Registration) (c : ℕ) where
       by-order k n (λ l. rw (lt-ltb k n l))
       (λ l. let z = zeros k l h in rw (le-ltb k n l, eq-eqb (sourceAt r c k) 0 (z .0), eq-eqb (keyAt r c k) 0 (z .1))))
 
--- a place among the places of pairs belongs to a consumer and a priority
-module _ (xs : List ℕ) (n : ℕ) where
-  places : ((c : ℕ) → n ≤ c → c < 64 → (k : ℕ) → k < 5 → getD xs (5 * c + k) 0 ≡ 0) → (i : ℕ) → 5 * n ≤ i → i < 320 → getD xs i 0 ≡ 0
-  places zeros i h l =
-      let q : 5 * (i / 5) + i % 5 ≡ i = div-add-mod i 5 in
-      let s : i % 5 < 5 = mod-lt i (omega arith) in
-      rw q at (zeros (i / 5) (omega arith) (omega arith) (i % 5) s)
-
 module _ (r : Registration) (sized : Sized r) (undamaged : isDamaged r ≡ false) where
   abbrev parts : Undamaged r
   parts = undamaged-parts r undamaged
-
-  zero-after : (zerosFrom 64 (points r) (r .codes) ≡ true) × (zerosFrom 64 (points r) (r .statuses) ≡ true)
-      × (zerosFrom 64 (r .consumers) (r .counts) ≡ true) × (every (pairsUnused r) 64 ≡ true)
-  zero-after =
-      let a = both _ (every (pairsUnused r) 64) (parts .unused) in
-      let b = both _ (zerosFrom 64 (r .consumers) (r .counts)) (a .0) in
-      let c = both _ (zerosFrom 64 (points r) (r .statuses)) (b .0) in
-      (c .0, c .1, b .1, a .1)
-
-  no-pairs : (c : ℕ) → c < 64 → Unused r c
-  no-pairs c h = unused-at r c (every-at (pairsUnused r) 64 c (zero-after .3) h)
-
-  no-count : (c : ℕ) → r .consumers ≤ c → c < 64 → countAt r c ≡ 0
-  no-count c h l = zeros-at 64 (r .consumers) (r .counts) (zero-after .2) c h l
 
   right-point : (i : ℕ) → i < points r → PointGood (codeAt r i) (statusAt r i)
   right-point i h =
@@ -105,11 +63,11 @@ module _ (r : Registration) (sized : Sized r) (undamaged : isDamaged r ≡ false
   all-read : upToConsumer r (r .consumers) ≡ r
   all-read =
       let n = r .consumers in
-      let a = front-self 64 (points r) (r .codes) (sized .codes) (zeros-at 64 (points r) (r .codes) (zero-after .0)) in
-      let b = front-self 64 (points r) (r .statuses) (sized .statuses) (zeros-at 64 (points r) (r .statuses) (zero-after .1)) in
-      let c = front-self 64 n (r .counts) (sized .counts) no-count in
-      let d = front-self 320 (5 * n) (r .sources) (sized .sources) (places (r .sources) n (λ c h l k m. no-pairs c l k (omega (arith, no-count c h l)) m .0)) in
-      let e = front-self 320 (5 * n) (r .keys) (sized .keys) (places (r .keys) n (λ c h l k m. no-pairs c l k (omega (arith, no-count c h l)) m .1)) in
+      let a = front-self 64 (points r) (r .codes) (sized .codes) (zeros-at 64 (points r) (r .codes) (zero-after r undamaged .0)) in
+      let b = front-self 64 (points r) (r .statuses) (sized .statuses) (zeros-at 64 (points r) (r .statuses) (zero-after r undamaged .1)) in
+      let c = front-self 64 n (r .counts) (sized .counts) (no-count r undamaged) in
+      let d = front-self 320 (5 * n) (r .sources) (sized .sources) (places (r .sources) n (λ c h l k m. no-pairs r undamaged c l k (omega (arith, no-count r undamaged c h l)) m .0)) in
+      let e = front-self 320 (5 * n) (r .keys) (sized .keys) (places (r .keys) n (λ c h l k m. no-pairs r undamaged c l k (omega (arith, no-count r undamaged c h l)) m .1)) in
       λ i.
       record {
         producers = r .producers;
@@ -129,7 +87,7 @@ module _ (r : Registration) (sized : Sized r) (undamaged : isDamaged r ≡ false
         group = record { counted = parts .point-counts; iterated = parts .iteration };
         point = right-point;
         consumer = right-consumer;
-        unused = λ c h. no-pairs c (omega arith);
+        unused = λ c h. no-pairs r undamaged c (omega arith);
         whole = all-read;
         differ = parts .differ;
         keys = parts .keys;

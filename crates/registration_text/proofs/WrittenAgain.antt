@@ -27,7 +27,8 @@ use Rattle.registration_text.proofs.ConsumerLine.{Said, lineSaid}
 use Rattle.registration_text.proofs.Texts.{text-none-D, text-none-O, text-D, text-O}
 use Rattle.registration_text.proofs.States.{upTo, upToConsumer, said, withOne, Put, clean-point, back-point, clean-one, back-one}
 use Rattle.registration_text.proofs.Steps.{PointGood, ConsumerGood, ReadG, read-G, read-D, read-O}
-use Rattle.registration_text.proofs.Rights.{Unused, Right}
+use Rattle.registration.proofs.Unused.{Unused}
+use Rattle.registration_text.proofs.Rights.{Right}
 
 -- ---- the D lines
 
