@@ -14,8 +14,8 @@ use Rattle.registration.specs.Rules.{countAt}
 use Rattle.values.specs.Values.{magnitudeMost}
 use Rattle.allocation.specs.Input.{Shareable, Magnitudes}
 use Rattle.allocation.specs.Rounds.{received}
-use Rattle.allocation.specs.Result.{startOf, roundsFor, allocationOf}
-use Rattle.allocation.proofs.Laws.{allocation-keeps-supplies, allocation-keeps-withdrawals}
+use Rattle.allocation.specs.Result.{startOf, roundsFor, allocationOf, pairShare}
+use Rattle.allocation.proofs.Laws.{pair-received, allocation-keeps-supplies, allocation-keeps-withdrawals}
 use Rattle.evaluation.specs.Layout.{Part, Shares, Withdrawals, Supplies, sizeOf, partOf, resultOf}
 use Rattle.evaluation.proofs.Laws.{part-lengths, result-size}
 
@@ -61,19 +61,20 @@ module _ (r : Registration) (magnitude : ℕ → ℕ) (s : Shareable r) (m : Mag
       one-within (share consumer priority)
       (omega (
         arith,
-        sum-term (share consumer) (countAt r consumer) priority l,
+        sum-term (pairShare r (allocationOf r magnitude) consumer) (countAt r consumer) priority l,
+        pair-received r magnitude consumer priority h l,
         allocation-keeps-withdrawals r magnitude consumer h,
         m (r .producers + consumer) (omega arith),
       ))))
   part-within Withdrawals =
       within-end (partOf (allocationOf r magnitude) Withdrawals)
       (λ consumer h.
-      let one-of : consumer < r .consumers = omega (arith, part-lengths r magnitude Withdrawals) in
+      let one-of : consumer < r .consumers = omega (arith, part-lengths r magnitude .withdrawals) in
       omega (arith, allocation-keeps-withdrawals r magnitude consumer one-of, m (r .producers + consumer) (omega arith)))
   part-within Supplies =
       within-end (partOf (allocationOf r magnitude) Supplies)
       (λ producer h.
-      let one-of : producer < r .producers = omega (arith, part-lengths r magnitude Supplies) in
+      let one-of : producer < r .producers = omega (arith, part-lengths r magnitude .supplies) in
       omega (arith, allocation-keeps-supplies r magnitude s producer one-of, m producer (omega arith)))
 
   -- each number of the result, in the list that it is put into
