@@ -5,7 +5,7 @@ use mathlib.Core.List.{List}
 use native.Mathlib.Nat.{zero-add, mul-div-le, lt-mul-div-succ}
 use native.Mathlib.Omega.{arith}
 use lib.Dec.{leb}
-use borrow.Author.Tests.{leb-true, leb-false}
+use borrow.Author.Tests.{leb-true, leb-false, ne-eqb}
 use Rattle.lists.specs.Place.{placed}
 use Rattle.lists.proofs.Below.{sum-bound}
 use Rattle.lists.proofs.Cases.{by-test}
@@ -22,13 +22,26 @@ use Rattle.evaluation.specs.Substitutes.{magnitudeOf}
 use Rattle.evaluation.specs.Evaluation.{evaluationOf}
 use Rattle.registration.specs.Pairs.{pairsBefore, pairsIn}
 use Rattle.evaluation.specs.Layout.{Shares, Withdrawals, Supplies, resultOf, HasLengths}
-use Rattle.evaluation.specs.Laws.{MeanIsNearest, PartLengths, ResultSize, PartsStand, pairNumber, ResultKeepsSupplies, ResultKeepsWithdrawals, ResultWithinMost}
+use Rattle.evaluation.specs.Laws.{MeanIsNearest, ReadingCounts, MissingCountsZero, MissingIsMean, PartLengths, ResultSize, PartsStand, pairNumber, ResultKeepsSupplies, ResultKeepsWithdrawals, ResultWithinMost}
 use Rattle.evaluation.proofs.Nearest.{nearest-some}
+use Rattle.evaluation.proofs.Missing.{weeks-exist}
 use Rattle.evaluation.proofs.Parts.{shares-there, size-of-parts, part-stands, number-stands}
 
 pub mean-is-nearest : MeanIsNearest
 mean-is-nearest sum count h =
     rw (nearest-some sum count h) (omega (arith, mul-div-le (2 * sum + count) (2 * count), lt-mul-div-succ (2 * sum + count) {b = 2 * count} (omega arith)))
+
+pub reading-counts : ReadingCounts
+unfolding magnitudeOf
+reading-counts status readings day quarter T reading e = rw e
+
+pub missing-counts-zero : MissingCountsZero
+unfolding magnitudeOf
+missing-counts-zero status readings day quarter T e h = rw (e, ne-eqb status 0 (omega arith))
+
+pub missing-is-mean : MissingIsMean
+unfolding magnitudeOf
+missing-is-mean readings day quarter T e = rw (e, weeks-exist)
 
 pub part-lengths : PartLengths
 part-lengths r magnitude =
