@@ -46,13 +46,13 @@ missing-is-mean readings day quarter T e = rw (e, weeks-exist)
 pub part-lengths : PartLengths
 part-lengths r magnitude =
     let lengths = allocation-lengths r magnitude in
-    record { shares = lengths .0; withdrawals = lengths .1; supplies = lengths .2 }
+    record { shares = omega arith; withdrawals = omega arith; supplies = omega arith }
 
--- these are the lengths of the layout
+-- each part has the length of the layout
 pub has-lengths : (r : Registration) (magnitude : ℕ → ℕ) → HasLengths r (allocationOf r magnitude)
-has-lengths r magnitude Shares = part-lengths r magnitude .shares
-has-lengths r magnitude Withdrawals = part-lengths r magnitude .withdrawals
-has-lengths r magnitude Supplies = part-lengths r magnitude .supplies
+has-lengths r magnitude Shares = omega (arith, allocation-lengths r magnitude)
+has-lengths r magnitude Withdrawals = omega (arith, allocation-lengths r magnitude)
+has-lengths r magnitude Supplies = omega (arith, allocation-lengths r magnitude)
 
 -- so it is with the allocation of what readings show
 pub evaluation-lengths : (r : Registration) (readings : ℕ → ℕ → ℕ → List Reading) (day quarter T : ℕ) → HasLengths r (evaluationOf r readings day quarter T)
@@ -81,13 +81,13 @@ module _ (r : Registration) (magnitude : ℕ → ℕ) (lent : List ℕ) where
 pub result-keeps-supplies : ResultKeepsSupplies
 result-keeps-supplies r magnitude lent s producer h =
     let pairs = of-producer-same r _ _ (pair-number r magnitude lent) producer in
-    let own = number-stands r (allocationOf r magnitude) (has-lengths r magnitude) lent Supplies producer h in
+    let own = number-stands r (allocationOf r magnitude) (has-lengths r magnitude) lent Supplies producer (omega arith) in
     omega (arith, pairs, own, allocation-keeps-supplies r magnitude s producer h)
 
 pub result-keeps-withdrawals : ResultKeepsWithdrawals
 result-keeps-withdrawals r magnitude lent consumer h =
     let pairs = of-consumer-same r _ _ (pair-number r magnitude lent) consumer h in
-    let own = number-stands r (allocationOf r magnitude) (has-lengths r magnitude) lent Withdrawals consumer h in
+    let own = number-stands r (allocationOf r magnitude) (has-lengths r magnitude) lent Withdrawals consumer (omega arith) in
     omega (arith, pairs, own, allocation-keeps-withdrawals r magnitude consumer h)
 
 -- with 5 producers or more there are at most 59 consumers, each with at most 5 pairs; with fewer a consumer has at most 4
