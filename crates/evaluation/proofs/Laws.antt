@@ -5,7 +5,7 @@ use mathlib.Core.List.{List}
 use native.Mathlib.Nat.{zero-add, mul-div-le, lt-mul-div-succ}
 use native.Mathlib.Omega.{arith}
 use lib.Dec.{leb}
-use borrow.Author.Tests.{leb-true, leb-false, ne-eqb}
+use borrow.Author.Tests.{leb-true, leb-false, ltb-false}
 use Rattle.lists.specs.Place.{placed}
 use Rattle.lists.proofs.Below.{sum-bound}
 use Rattle.lists.proofs.Cases.{by-test}
@@ -18,7 +18,7 @@ use Rattle.allocation.specs.Result.{allocationOf, pairShare}
 use Rattle.allocation.proofs.Laws.{undamaged-is-shareable, allocation-keeps-supplies, allocation-keeps-withdrawals, allocation-lengths}
 use Rattle.allocation.proofs.Pairs.{of-consumer-same, of-producer-same}
 use Rattle.allocation.proofs.Shareable.{few-points, count-most, count-within}
-use Rattle.evaluation.specs.Substitutes.{magnitudeOf}
+use Rattle.evaluation.specs.Substitutes.{notActive, magnitudeOf}
 use Rattle.evaluation.specs.Evaluation.{evaluationOf}
 use Rattle.registration.specs.Pairs.{pairsBefore, pairsIn}
 use Rattle.evaluation.specs.Layout.{Shares, Withdrawals, Supplies, resultOf, HasLengths}
@@ -37,7 +37,8 @@ reading-counts status readings day quarter T reading e = rw e
 
 pub missing-counts-zero : MissingCountsZero
 unfolding magnitudeOf
-missing-counts-zero status readings day quarter T e h = rw (e, ne-eqb status 0 (omega arith))
+missing-counts-zero status readings day quarter T e h =
+    by-test (notActive status) (λ t. rw (e, t)) (λ f. absurd (omega (arith, ltb-false)))
 
 pub missing-is-mean : MissingIsMean
 unfolding magnitudeOf
