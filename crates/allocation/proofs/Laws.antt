@@ -1,5 +1,5 @@
--- What users of the published method rely on: nothing is lost, no share is too great, there are at most five rounds, each list of an
--- allocation has its length, and equal magnitudes have equal results. Assumes nothing.
+-- What users of the published method rely on: nothing is lost, no share is too great, no offer is left by a consumer that has something left to
+-- withdraw, there are at most five rounds, each list of an allocation has its length, and equal magnitudes have equal results. Assumes nothing.
 use Prim.Native.Nat.{ℕ, zero, suc, _+_, _-_, _*_, _/_, _≤_, _<_}
 use mathlib.Core.Path.{_≡_, ap, _∙_}
 use mathlib.Core.Bool.{_&&_}

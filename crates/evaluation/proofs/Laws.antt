@@ -1,4 +1,5 @@
--- What users of an evaluation rely on: means are nearest, results have their size and their parts, and how large they are at most. Assumes nothing.
+-- What users of an evaluation rely on: means are nearest, and of the four earlier weeks; results have their size and their parts, their numbers add
+-- up, and how large they are at most. Assumes nothing.
 use Prim.Native.Nat.{ℕ, _+_, _*_, _≤_, _<_}
 use mathlib.Core.Path.{_≡_}
 use mathlib.Core.List.{List}
@@ -68,6 +69,7 @@ pub parts-stand : PartsStand
 parts-stand = part-stands
 
 module _ (r : Registration) (magnitude : ℕ → ℕ) (lent : List ℕ) where
+  -- the list that the result is put into
   abbrev numbers : List ℕ
   numbers = placed 0 (resultOf (allocationOf r magnitude)) lent
 

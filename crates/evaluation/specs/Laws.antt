@@ -45,7 +45,7 @@ MissingCountsZero =
     (status : ℕ) (readings : ℕ → ℕ → List Reading) (day quarter T : ℕ) → shown T (readings day quarter) ≡ none → 1 ≤ status
     → magnitudeOf status readings day quarter T ≡ 0
 
--- and status 0 gives the mean of the magnitudes shown 7, 14, 21 and 28 days before
+-- and status 0 gives the mean of those magnitudes that are shown 7, 14, 21 and 28 days before
 abbrev pub MissingIsMean : Type 0
 MissingIsMean =
     (readings : ℕ → ℕ → List Reading) (day quarter T : ℕ) → shown T (readings day quarter) ≡ none
