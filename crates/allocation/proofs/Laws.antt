@@ -1,23 +1,26 @@
--- What users of the published method rely on: nothing is lost, no share is too great, there are at most five rounds, each list of an
--- allocation has its length, and equal magnitudes have equal results. Assumes nothing.
-use Prim.Native.Nat.{ℕ, zero, suc, _+_, _≤_, _<_}
+-- What users of the published method rely on: nothing is lost, no share is too great, no offer is left by a consumer that has something left to
+-- withdraw, there are at most five rounds, each list of an allocation has its length, and equal magnitudes have equal results. Assumes nothing.
+use Prim.Native.Nat.{ℕ, zero, suc, _+_, _-_, _*_, _/_, _≤_, _<_}
 use mathlib.Core.Path.{_≡_, ap, _∙_}
 use mathlib.Core.Bool.{_&&_}
 use native.Mathlib.Omega.{arith}
 use lib.Dec.{leb, eqb}
 use lib.ListN.{length}
 use Rattle.lists.proofs.Cases.{by-test}
-use Rattle.lists.proofs.TableLaws.{length-table, table-at, table-same, length-joined}
+use Rattle.lists.proofs.TableLaws.{length-table, table-at, table-same}
 use Rattle.registration.specs.declared.Registration.{Registration}
 use Rattle.lists.specs.Below.{sumBelow}
-use Rattle.registration.specs.Rules.{points, countAt}
+use Rattle.registration.specs.Rules.{points, countAt, sourceAt, keyAt}
+use Rattle.registration.specs.Pairs.{pairsIn}
 use Rattle.registration.proofs.Damage.{undamaged-parts}
-use Rattle.allocation.specs.Rounds.{Remaining, roundsOf, shareIn, roundOf, afterRounds, received}
-use Rattle.allocation.specs.Result.{startOf, pairsOf, roundsFor, allocationOf}
+use Rattle.allocation.specs.Rounds.{Remaining, withdrawalAt, supplyAt, roundsOf, shareIn, roundOf, afterRounds, received}
+use Rattle.allocation.specs.Result.{startOf, pairsOf, roundsFor, allocationOf, pairShare}
 use Rattle.allocation.specs.Laws.{UndamagedIsShareable, RoundWithinSupply, SupplyAddsUp, WithdrawalAddsUp, WithinWithdrawal}
-use Rattle.allocation.specs.Laws.{AllocationKeepsSupplies, AllocationKeepsWithdrawals, OneRoundWithinKey}
+use Rattle.allocation.specs.Laws.{AllocationKeepsSupplies, AllocationKeepsWithdrawals, TurnSharesAll, OneRoundSharesAll, OneRoundWithinKey}
 use Rattle.lists.proofs.Sums.{sum-add}
-use Rattle.allocation.proofs.Consumers.{round-keeps-withdrawal}
+use Rattle.allocation.proofs.Shareable.{pair-of}
+use Rattle.allocation.proofs.Pairs.{pairs-length, pair-at, of-consumer-same, of-producer-same}
+use Rattle.allocation.proofs.Consumers.{round-keeps-withdrawal, round-takes-all}
 use Rattle.allocation.proofs.Producers.{of-producer-add, taken-within-supply, round-keeps-supply}
 
 -- there are at most five rounds
@@ -54,23 +57,49 @@ withdrawal-adds-up r start (suc rounds) consumer h =
 pub within-withdrawal : WithinWithdrawal
 within-withdrawal r start rounds consumer h = omega (arith, withdrawal-adds-up r start rounds consumer h)
 
+module _ (r : Registration) (magnitude : ℕ → ℕ) where
+  -- what each pair has in an allocation is what it received in all rounds
+  pub pair-received : (consumer priority : ℕ) → consumer < r .consumers → priority < countAt r consumer
+      → pairShare r (allocationOf r magnitude) consumer priority ≡ received r (startOf r magnitude) (roundsFor r) consumer priority
+  unfolding allocationOf
+  pair-received = pair-at r (received r (startOf r magnitude) (roundsFor r))
+
 pub allocation-keeps-supplies : AllocationKeepsSupplies
 unfolding allocationOf
 allocation-keeps-supplies r magnitude s producer h =
-    supply-adds-up r (startOf r magnitude) (roundsFor r) s producer h ∙ table-at magnitude (r .producers) producer h
+    let shares = of-producer-same r _ _ (pair-received r magnitude) producer in
+    let kept = supply-adds-up r (startOf r magnitude) (roundsFor r) s producer h in
+    omega (arith, shares, kept, table-at magnitude (r .producers) producer h)
 
 pub allocation-keeps-withdrawals : AllocationKeepsWithdrawals
 unfolding allocationOf
 allocation-keeps-withdrawals r magnitude consumer h =
-    withdrawal-adds-up r (startOf r magnitude) (roundsFor r) consumer h
-    ∙ table-at (λ consumer. magnitude (r .producers + consumer)) (r .consumers) consumer h
+    let shares = of-consumer-same r _ _ (pair-received r magnitude) consumer h in
+    let kept = withdrawal-adds-up r (startOf r magnitude) (roundsFor r) consumer h in
+    omega (arith, shares, kept, table-at (λ consumer. magnitude (r .producers + consumer)) (r .consumers) consumer h)
+
+pub turn-shares-all : TurnSharesAll
+turn-shares-all r start consumer priority h l rest = omega (arith, round-takes-all r start consumer h priority l rest)
+
+-- after one round a pair has received its share of that round
+one-round-shares : (r : Registration) (start : Remaining) (consumer priority : ℕ) → consumer < r .consumers → priority < countAt r consumer
+    → 1 ≤ withdrawalAt (afterRounds r start 1) consumer
+    → received r start 1 consumer priority ≡ keyAt r consumer priority * supplyAt start (sourceAt r consumer priority - 1) / 10000
+unfolding sumBelow afterRounds
+one-round-shares r start consumer priority h l rest = omega (arith, turn-shares-all r start consumer priority h l rest)
 
 pub one-round-within-key : OneRoundWithinKey
 unfolding sumBelow afterRounds
 one-round-within-key r start consumer priority = omega arith
 
-pub pairs-length : (r : Registration) (number : ℕ → ℕ → ℕ) → length (pairsOf r number) ≡ sumBelow (countAt r) (r .consumers)
-pairs-length r number = length-joined _ (countAt r) (r .consumers) (λ consumer. length-table (number consumer) (countAt r consumer))
+pub one-round-shares-all : OneRoundSharesAll
+unfolding allocationOf
+one-round-shares-all r magnitude s one consumer priority h l rest =
+    let start = startOf r magnitude in
+    let source = pair-of s consumer priority h l in
+    let supply = table-at magnitude (r .producers) (sourceAt r consumer priority - 1) (omega (arith, source .source-least, source .source-most)) in
+    pair-received r magnitude consumer priority h l
+    ∙ rw (one, ← supply) (one-round-shares r start consumer priority h l (rw one at rest))
 
 -- what remains has a number for each consumer and each producer, at the start and after each round
 pub remaining-lengths : (r : Registration) (magnitude : ℕ → ℕ) (rounds : ℕ)
@@ -82,7 +111,7 @@ remaining-lengths r magnitude (suc rounds) = (length-table _ (r .consumers), len
 
 -- so many numbers does an allocation have of each sort
 pub allocation-lengths : (r : Registration) (magnitude : ℕ → ℕ)
-    → (length (allocationOf r magnitude .shares) ≡ sumBelow (countAt r) (r .consumers)) × (length (allocationOf r magnitude .withdrawals) ≡ r .consumers)
+    → (length (allocationOf r magnitude .shares) ≡ pairsIn r) × (length (allocationOf r magnitude .withdrawals) ≡ r .consumers)
     × (length (allocationOf r magnitude .supplies) ≡ r .producers)
 unfolding allocationOf
 allocation-lengths r magnitude =

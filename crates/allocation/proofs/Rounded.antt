@@ -9,7 +9,7 @@ use native.Mathlib.Numerals.{add-one}
 use lib.Dec.{leb}
 use lib.ListN.{length, getD}
 use borrow.Author.Tests.{leb-true, leb-false}
-use Rattle.lists.proofs.TableLaws.{table-at, table-same, joined-same}
+use Rattle.lists.proofs.TableLaws.{table-at}
 use Rattle.registration.specs.declared.Registration.{Registration}
 use Rattle.registration.specs.Rules.{countAt, placeAt}
 use Rattle.lists.proofs.Below.{sum-none, sum-next}
@@ -19,6 +19,7 @@ use Rattle.allocation.specs.Rounds.{Remaining, withdrawalAt, supplyAt, s
 use Rattle.allocation.specs.Result.{Allocation, pairsOf, roundsFor, allocationOf}
 use Rattle.allocation.specs.Working.{remainingIn, PairsWithin, RoundMade, allocationIn}
 use Rattle.lists.proofs.Sums.{sum-term}
+use Rattle.allocation.proofs.Pairs.{pairs-same}
 use Rattle.allocation.proofs.Laws.{supply-adds-up, withdrawal-adds-up, within-withdrawal}
 
 after-none : (r : Registration) (start : Remaining) → afterRounds r start 0 ≡ start
@@ -124,9 +125,7 @@ module _ {r : Registration} (s : Shareable r) {most round : ℕ} {magnitudes lef
 
     shares-last : pairsOf r (placeAt shares) ≡ pairsOf r (received r (remainingIn r magnitudes) (roundsFor r))
     shares-last =
-        joined-same _ _ (r .consumers)
-        (λ c l. table-same _ _ (countAt r c)
-        (λ k n. t .sums c k l n ∙ ap (λ (i : ℕ). received r (remainingIn r magnitudes) i c k) rounds-same))
+        pairs-same r _ _ (λ c k l n. t .sums c k l n ∙ ap (λ (i : ℕ). received r (remainingIn r magnitudes) i c k) rounds-same)
 
     pub allocated : allocationIn r (record { shares = shares; left = left; rounds = most }) ≡ allocationOf r (λ point. getD magnitudes point 0)
     unfolding allocationOf

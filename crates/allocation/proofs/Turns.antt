@@ -4,7 +4,7 @@ use mathlib.Core.Path.{_≡_, refl, sym, ap, subst, _∙_}
 use mathlib.Core.Bool.{Bool, true, false, cond}
 use mathlib.Core.List.{List}
 use native.Mathlib.Omega.{arith}
-use native.Mathlib.Nat.{le-refl, le-trans, mul-le-mul, div-le-of-le-mul}
+use native.Mathlib.Nat.{le-refl, mul-le-mul}
 use native.Mathlib.Numerals.{add-one}
 use native.Mathlib.Decide.{ℕ-discrete}
 use lib.Dec.{eqb, ltb}
@@ -38,7 +38,7 @@ module _ (offer : ℕ → ℕ) (withdrawal priority : ℕ) {left share : ℕ} (h
 
 -- a key gives no more than the supply
 pub offer-small : (key supply most : ℕ) → key ≤ 10000 → supply ≤ most → offerOf key supply ≤ most
-offer-small key supply most h k = le-trans (div-le-of-le-mul 10000 (mul-le-mul h (le-refl supply))) k
+offer-small key supply most h k = omega (arith, mul-le-mul h (le-refl supply))
 
 -- how many of its producers each consumer has gone through, when those before one have had their turns and it is at a priority
 abbrev pub passedAt : List ℕ → (consumer priority : ℕ) → ℕ → ℕ

@@ -4,11 +4,11 @@ use mathlib.Core.Path.{_≡_}
 use mathlib.Core.Bool.{false}
 use lib.ListN.{getD}
 use Rattle.registration.specs.declared.Registration.{Registration}
-use Rattle.registration.specs.Rules.{sourceAt, keyAt}
+use Rattle.registration.specs.Rules.{countAt, sourceAt, keyAt}
 use Rattle.registration.specs.Damage.{isDamaged}
 use Rattle.registration.specs.Pairs.{ofConsumer, ofProducer}
-use Rattle.allocation.specs.Rounds.{Remaining, withdrawalAt, supplyAt, shareIn, afterRounds, received}
-use Rattle.allocation.specs.Result.{startOf, roundsFor, allocationOf}
+use Rattle.allocation.specs.Rounds.{Remaining, withdrawalAt, supplyAt, shareIn, roundOf, afterRounds, received}
+use Rattle.allocation.specs.Result.{allocationOf, pairShare}
 use Rattle.allocation.specs.Input.{Shareable}
 
 -- every undamaged registration can be shared by
@@ -39,18 +39,33 @@ WithinWithdrawal =
     (r : Registration) (start : Remaining) (rounds consumer : ℕ) → consumer < r .consumers
     → ofConsumer r (received r start rounds) consumer ≤ withdrawalAt start consumer
 
--- so it is in the allocation of a quarter hour: what a producer shared and what it has left are the magnitude that it supplied
+-- so it is in the numbers of an allocation: what a producer's pairs have there and what it has left there are the magnitude that it supplied
 abbrev pub AllocationKeepsSupplies : Type 0
 AllocationKeepsSupplies =
     (r : Registration) (magnitude : ℕ → ℕ) → Shareable r → (producer : ℕ) → producer < r .producers
-    → ofProducer r (received r (startOf r magnitude) (roundsFor r)) producer + getD (allocationOf r magnitude .supplies) producer 0 ≡ magnitude producer
+    → ofProducer r (pairShare r (allocationOf r magnitude)) producer + getD (allocationOf r magnitude .supplies) producer 0 ≡ magnitude producer
 
--- and what a consumer received and what it has left are the magnitude that it withdrew
+-- and what a consumer's pairs have there and what it has left there are the magnitude that it withdrew
 abbrev pub AllocationKeepsWithdrawals : Type 0
 AllocationKeepsWithdrawals =
     (r : Registration) (magnitude : ℕ → ℕ) (consumer : ℕ) → consumer < r .consumers
-    → ofConsumer r (received r (startOf r magnitude) (roundsFor r)) consumer + getD (allocationOf r magnitude .withdrawals) consumer 0
+    → ofConsumer r (pairShare r (allocationOf r magnitude)) consumer + getD (allocationOf r magnitude .withdrawals) consumer 0
     ≡ magnitude (r .producers + consumer)
+
+-- a consumer that has something left after a round has taken all that it was offered in it: key × supply / 10000 of each producer that it names
+abbrev pub TurnSharesAll : Type 0
+TurnSharesAll =
+    (r : Registration) (start : Remaining) (consumer priority : ℕ) → consumer < r .consumers → priority < countAt r consumer
+    → 1 ≤ withdrawalAt (roundOf r start) consumer
+    → shareIn r start consumer priority ≡ keyAt r consumer priority * supplyAt start (sourceAt r consumer priority - 1) / 10000
+
+-- so it is in the numbers of an allocation of one round
+abbrev pub OneRoundSharesAll : Type 0
+OneRoundSharesAll =
+    (r : Registration) (magnitude : ℕ → ℕ) → Shareable r → allocationOf r magnitude .rounds ≡ 1
+    → (consumer priority : ℕ) → consumer < r .consumers → priority < countAt r consumer
+    → 1 ≤ getD (allocationOf r magnitude .withdrawals) consumer 0
+    → pairShare r (allocationOf r magnitude) consumer priority ≡ keyAt r consumer priority * magnitude (sourceAt r consumer priority - 1) / 10000
 
 -- with one round no share exceeds key × supply / 10000
 abbrev pub OneRoundWithinKey : Type 0

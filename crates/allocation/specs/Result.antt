@@ -1,9 +1,11 @@
 -- The result of an allocation, from the magnitudes of all points in one quarter hour. Assumes nothing.
 use Prim.Native.Nat.{ℕ, _+_}
 use mathlib.Core.List.{List}
+use lib.ListN.{getD}
 use Rattle.lists.specs.Tables.{joined, table}
 use Rattle.registration.specs.declared.Registration.{Registration}
 use Rattle.registration.specs.Rules.{points, countAt}
+use Rattle.registration.specs.Pairs.{pairsBefore}
 use Rattle.allocation.specs.Rounds.{Remaining, roundsOf, afterRounds, received}
 
 -- pair shares, consumers in order and priorities within; remaining withdrawals; remaining supplies; the round count
@@ -38,3 +40,7 @@ allocationOf r magnitude =
       supplies = afterRounds r (startOf r magnitude) (roundsFor r) .supplies;
       rounds = roundsFor r;
     }
+
+-- a pair's share in an allocation: among the shares it stands after those of the consumers before its own, at its priority
+abbrev pub pairShare : Registration → Allocation → (consumer priority : ℕ) → ℕ
+pairShare r allocation consumer priority = getD (allocation .shares) (pairsBefore r consumer + priority) 0

@@ -1,6 +1,6 @@
 -- The rounds of the published method. Consumers, producers and priorities count from 0; a producer's number, as a consumer names it, from 1.
 -- A round looks at each consumer by itself, from the supplies at the round's start: no order among consumers enters it. Assumes nothing.
-use Prim.Native.Nat.{ℕ, zero, suc, _+_, _-_, _*_, _/_, min}
+use Prim.Native.Nat.{ℕ, zero, suc, _-_, _*_, _/_, min}
 use mathlib.Core.Bool.{cond, _&&_}
 use mathlib.Core.List.{List}
 use lib.ListN.{getD}

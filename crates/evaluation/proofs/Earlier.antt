@@ -9,7 +9,7 @@ use borrow.Author.Tests.{leb-true}
 use Rattle.lists.proofs.Cases.{by-test}
 use Rattle.calendar.specs.Quarters.{quarterExists}
 use Rattle.calendar.proofs.Laws.{exists-quarter}
-use Rattle.evaluation.specs.Earlier.{Slot, earlier}
+use Rattle.evaluation.specs.Earlier.{weekDays, Slot, earlier}
 
 -- a quarter hour of a day or of one of the 28 days before it, with a number that a quarter can have
 pub record Within (day : ℕ) (slot : Slot) : Type 0 where
@@ -30,11 +30,11 @@ module _ (day quarter : ℕ) (exists : quarterExists day quarter ≡ true) where
   pub earlier-within : (weeks : ℕ) → weeks ≤ 4 → (slot : Slot) → earlier weeks day quarter ≡ some slot → Within day slot
   unfolding earlier
   earlier-within weeks few slot e =
-      by-test (leb (7 * weeks) day)
+      by-test (leb (weekDays * weeks) day)
       (λ t.
       let k = exists-quarter day quarter exists in
-      let g : 7 * weeks ≤ day = leb-true (7 * weeks) day t in
-      let a : day - 7 * weeks ≡ slot .day = cc in
+      let g : weekDays * weeks ≤ day = leb-true (weekDays * weeks) day t in
+      let a : day - weekDays * weeks ≡ slot .day = cc in
       let b : quarter ≡ slot .quarter = cc in
       record { before = omega arith; near = omega arith; from = omega arith; to = omega arith })
       (λ t. let z : _≡_ {A = ℕ} 0 1 = cc in absurd (omega arith))

@@ -17,7 +17,7 @@ use Rattle.allocation.specs.Result.{Allocation, allocationOf}
 use Rattle.allocation.specs.Working.{allocationIn}
 use Rattle.allocation.proofs.Shareable.{few-points}
 use Rattle.allocation.proofs.Laws.{allocation-same}
-use Rattle.evaluation.specs.Earlier.{earlier}
+use Rattle.evaluation.specs.Earlier.{weekDays, earlier}
 use Rattle.evaluation.specs.Substitutes.{magnitudeFrom, magnitudeOf}
 use Rattle.evaluation.specs.Evaluation.{magnitudesIn}
 use Rattle.evaluation.specs.Layout.{resultOf, ResultPut}
@@ -28,8 +28,8 @@ use Rattle.evaluation.proofs.Substituted.{magnitude-within}
 earlier-none : (day quarter : ℕ) → earlier 0 day quarter ≡ some (record { day = day; quarter = quarter })
 unfolding earlier
 earlier-none day quarter =
-    let z : day - 7 * 0 ≡ day = omega arith in
-    rw (le-leb (7 * 0) day (omega arith), z)
+    let z : day - weekDays * 0 ≡ day = omega arith in
+    rw (le-leb (weekDays * 0) day (omega arith), z)
 
 -- the same values have the same magnitude
 from-same : (status : ℕ) (a a′ b b′ c c′ d d′ e e′ : Option Value) → a ≡ a′ → b ≡ b′ → c ≡ c′ → d ≡ d′ → e ≡ e′

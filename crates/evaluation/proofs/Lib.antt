@@ -1,5 +1,6 @@
 pub mod Nearest
 pub mod Parts
+pub mod Missing
 pub mod Laws
 pub mod Reached
 pub mod ResultBounds
@@ -14,3 +15,4 @@ pub mod Evaluated
 pub mod Earlier
 pub mod Alike
 pub mod Greatest
+pub mod Cases

@@ -1,12 +1,11 @@
 -- The parts of a result: how many numbers they have, where they stand in a list that the result is put into, and that parts put in turn,
 -- each at its place, are the result. Assumes nothing.
 use Prim.Native.Nat.{ℕ, _+_, _≤_, _<_}
-use mathlib.Core.Path.{_≡_, refl}
+use mathlib.Core.Path.{_≡_, refl, sym, ap, _∙_}
 use mathlib.Core.List.{List, [], _++_, append-assoc}
-use native.Mathlib.Nat.{zero-add}
 use native.Mathlib.Omega.{arith}
 use lib.ListN.{length, getD, take, drop, length-append}
-use lib.Seq.{take-at, drop-at}
+use lib.Seq.{take-at, drop-at, getD-drop, getD-take}
 use Rattle.lists.specs.Place.{placed, Put}
 use Rattle.lists.specs.Tables.{table}
 use Rattle.lists.proofs.Below.{sum-next}
@@ -19,9 +18,9 @@ use Rattle.registration.specs.Rules.{countAt, placeAt}
 use Rattle.allocation.specs.declared.Allocated.{Allocated}
 use Rattle.allocation.specs.Result.{Allocation}
 use Rattle.allocation.specs.Working.{allocationIn}
-use Rattle.allocation.proofs.Laws.{pairs-length}
+use Rattle.allocation.proofs.Pairs.{pairs-length}
 use Rattle.registration.specs.Pairs.{pairsBefore, pairsIn}
-use Rattle.evaluation.specs.Layout.{Part, Shares, Withdrawals, Supplies, beginOf, sizeOf, partIn, partOf, resultOf, HasLengths}
+use Rattle.evaluation.specs.Layout.{Part, Shares, Withdrawals, Supplies, lengthOf, beginOf, sizeOf, partIn, partOf, resultOf, HasLengths}
 
 -- the shares of a consumer are among those of all consumers
 pub shares-there : (r : Registration) (consumer : ℕ) → consumer < r .consumers → pairsBefore r consumer + countAt r consumer ≤ pairsIn r
@@ -31,12 +30,12 @@ shares-there r consumer h =
 -- the parts that the working arrays hold
 pub lengths-in : (r : Registration) (allocated : Allocated) → HasLengths r (allocationIn r allocated)
 lengths-in r allocated Shares = pairs-length r (placeAt (allocated .shares))
-lengths-in r allocated Withdrawals = length-table _ (r .consumers)
-lengths-in r allocated Supplies = length-table _ (r .producers)
+lengths-in r allocated Withdrawals = length-table _ _
+lengths-in r allocated Supplies = length-table _ _
 
--- the first numbers of a list, counted from its first place on
-pub from-first : (numbers : List ℕ) (n : ℕ) → table (λ i. getD numbers (0 + i) 0) n ≡ table (λ i. getD numbers i 0) n
-from-first numbers n = table-same _ _ n (λ i h. rw zero-add)
+-- the numbers at the same places of a list
+pub same-places : (numbers : List ℕ) (f g : ℕ → ℕ) (n : ℕ) → ((i : ℕ) → f i ≡ g i) → table (λ i. getD numbers (f i) 0) n ≡ table (λ i. getD numbers (g i) 0) n
+same-places numbers f g n same = table-same _ _ n (λ i h. rw (same i))
 
 -- the middle one of three lists put together
 part-of : (first second third : List ℕ) (at count : ℕ) → length first ≡ at → length second ≡ count → take count (drop at (first ++ (second ++ third))) ≡ second
@@ -67,14 +66,23 @@ module _ (r : Registration) (allocation : Allocation) (lengths : HasLengths r al
         rw (whole, ← append-assoc (partOf allocation Shares) (partOf allocation Withdrawals) (partOf allocation Supplies ++ later))
         (part-of (partOf allocation Shares ++ partOf allocation Withdrawals) (partOf allocation Supplies) later _ _ before (lengths Supplies))
 
+    -- and each of its numbers
+    pub number-stands : (part : Part) (i : ℕ) → i < lengthOf r part
+        → getD (placed 0 (resultOf allocation) lent) (beginOf r part + i) 0 ≡ getD (partOf allocation part) i 0
+    number-stands part i h =
+        let numbers = placed 0 (resultOf allocation) lent in
+        sym (getD-drop (beginOf r part) numbers i 0) ∙ sym (getD-take _ (drop (beginOf r part) numbers) i 0 h) ∙ ap (λ (list : List ℕ). getD list i 0) (part-stands part)
+
   -- parts put in turn
-  pub parts-put : (before : List ℕ) {withdrawals supplies next end : ℕ} {shares remaining after : List ℕ} → sizeOf r ≤ length before
+  pub parts-put : (before : List ℕ) {withdrawals supplies next end : ℕ} {shares first second remaining after : List ℕ} → sizeOf r ≤ length before
       → withdrawals ≡ beginOf r Withdrawals → supplies ≡ beginOf r Supplies
       → shares ≡ placed 0 (partOf allocation Shares) before
-      → Put withdrawals (partOf allocation Withdrawals) shares remaining next
-      → Put supplies (partOf allocation Supplies) remaining after end
+      → first ≡ partOf allocation Withdrawals → Put withdrawals first shares remaining next
+      → second ≡ partOf allocation Supplies → Put supplies second remaining after end
       → after ≡ placed 0 (resultOf allocation) before
-  parts-put before {withdrawals} {supplies} {next} {end} {shares} room w s e q t =
+  parts-put before {withdrawals} {supplies} {next} {end} {shares} room w s e f q₀ g t₀ =
+      let q = rw f at q₀ in
+      let t = rw g at t₀ in
       let p : Put 0 (partOf allocation Shares) before shares withdrawals = record { list = e; end = omega (arith, lengths Shares) } in
       let same : length shares ≡ length before = put-length (omega (arith, lengths Shares)) p in
       let then : supplies ≡ next = omega (arith, q .end, lengths Withdrawals) in

@@ -14,10 +14,10 @@ use Rattle.registration.specs.Rules.{countAt}
 use Rattle.values.specs.Values.{magnitudeMost}
 use Rattle.allocation.specs.Input.{Shareable, Magnitudes}
 use Rattle.allocation.specs.Rounds.{received}
-use Rattle.allocation.specs.Result.{startOf, roundsFor, allocationOf}
-use Rattle.allocation.proofs.Laws.{allocation-keeps-supplies, allocation-keeps-withdrawals}
+use Rattle.allocation.specs.Result.{startOf, roundsFor, allocationOf, pairShare}
+use Rattle.allocation.proofs.Laws.{pair-received, allocation-keeps-supplies, allocation-keeps-withdrawals, allocation-lengths}
 use Rattle.evaluation.specs.Layout.{Part, Shares, Withdrawals, Supplies, sizeOf, partOf, resultOf}
-use Rattle.evaluation.proofs.Laws.{part-lengths, result-size}
+use Rattle.evaluation.proofs.Laws.{result-size}
 
 -- each number of a list is at most the greatest magnitude; past its end there are zeros
 abbrev EachWithin : List ℕ → Type 0
@@ -49,10 +49,10 @@ abbrev pub ResultWithin : Registration → List ℕ → Type 0
 ResultWithin r numbers = (i : ℕ) → i < sizeOf r → getD numbers i 0 ≤ magnitudeMost
 
 module _ (r : Registration) (magnitude : ℕ → ℕ) (s : Shareable r) (m : Magnitudes r magnitude) where
-  -- a share is within its consumer's withdrawal, and what remains within what there was
-  part-within : (part : Part) → EachWithin (partOf (allocationOf r magnitude) part)
+  -- a share is within its consumer's withdrawal
+  shares-within : EachWithin (allocationOf r magnitude .shares)
   unfolding allocationOf
-  part-within Shares =
+  shares-within =
       let share = received r (startOf r magnitude) (roundsFor r) in
       joined-within _ (r .consumers)
       (λ consumer h.
@@ -61,20 +61,32 @@ module _ (r : Registration) (magnitude : ℕ → ℕ) (s : Shareable r) (m : Mag
       one-within (share consumer priority)
       (omega (
         arith,
-        sum-term (share consumer) (countAt r consumer) priority l,
+        sum-term (pairShare r (allocationOf r magnitude) consumer) (countAt r consumer) priority l,
+        pair-received r magnitude consumer priority h l,
         allocation-keeps-withdrawals r magnitude consumer h,
         m (r .producers + consumer) (omega arith),
       ))))
-  part-within Withdrawals =
-      within-end (partOf (allocationOf r magnitude) Withdrawals)
+
+  -- what remains is within what there was
+  withdrawals-within : EachWithin (allocationOf r magnitude .withdrawals)
+  withdrawals-within =
+      within-end (allocationOf r magnitude .withdrawals)
       (λ consumer h.
-      let one-of : consumer < r .consumers = omega (arith, part-lengths r magnitude Withdrawals) in
+      let one-of : consumer < r .consumers = omega (arith, allocation-lengths r magnitude) in
       omega (arith, allocation-keeps-withdrawals r magnitude consumer one-of, m (r .producers + consumer) (omega arith)))
-  part-within Supplies =
-      within-end (partOf (allocationOf r magnitude) Supplies)
+
+  supplies-within : EachWithin (allocationOf r magnitude .supplies)
+  supplies-within =
+      within-end (allocationOf r magnitude .supplies)
       (λ producer h.
-      let one-of : producer < r .producers = omega (arith, part-lengths r magnitude Supplies) in
+      let one-of : producer < r .producers = omega (arith, allocation-lengths r magnitude) in
       omega (arith, allocation-keeps-supplies r magnitude s producer one-of, m producer (omega arith)))
+
+  -- so it is in each part
+  part-within : (part : Part) → EachWithin (partOf (allocationOf r magnitude) part)
+  part-within Shares i = shares-within i
+  part-within Withdrawals i = omega (arith, withdrawals-within i, supplies-within i)
+  part-within Supplies i = omega (arith, withdrawals-within i, supplies-within i)
 
   -- each number of the result, in the list that it is put into
   pub result-within : (lent : List ℕ) → ResultWithin r (placed 0 (resultOf (allocationOf r magnitude)) lent)

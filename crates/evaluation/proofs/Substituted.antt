@@ -1,20 +1,19 @@
 -- The magnitude of a point from the working table: by what the code finds there, and never above the greatest of a reading. Assumes nothing.
 use Prim.Native.Nat.{ℕ, zero, suc, _+_, _-_, _*_, _≤_, _<_}
 use mathlib.Core.Path.{_≡_, sym, _∙_}
+use mathlib.Core.Bool.{true, false}
 use mathlib.Core.List.{List, map}
 use mathlib.Core.Option.{Option, none, some}
 use native.Mathlib.Nat.{add-zero, not-suc-le-zero}
 use native.Mathlib.Omega.{arith}
-use lib.Dec.{eqb}
 use lib.ListN.{length, getD, set, length-set}
 use lib.Seq.{getD-set-same, getD-set-other}
-use borrow.Author.Tests.{eq-eqb, ne-eqb}
 use Rattle.lists.proofs.Cases.{by-test}
 use Rattle.lists.proofs.Below.{below}
 use Rattle.journal.specs.Value.{Value}
 use Rattle.values.specs.Values.{magnitudeMost}
 use Rattle.evaluation.specs.Mean.{meanOf}
-use Rattle.evaluation.specs.Substitutes.{existing, substitute, magnitudeFrom, fourWeeks}
+use Rattle.evaluation.specs.Substitutes.{existing, notActive, substitute, magnitudeFrom, fourWeeks}
 use Rattle.evaluation.specs.Working.{valueFor, numberAt, weekOf, weeksOf, magnitudeIn, Within, AllOf}
 use Rattle.evaluation.proofs.Means.{Small, small-for, mean-within}
 
@@ -38,17 +37,17 @@ module _ (table : List ℕ) (point status : ℕ) where
     substituted = rw add-zero (from-none _ status (weeksOf table point) e)
 
     -- by a status above 0
-    pub magnitude-inactive : 0 < status → 0 ≡ magnitudeIn table point status
-    magnitude-inactive h = sym (substituted ∙ rw (ne-eqb status 0 (omega arith)))
+    pub magnitude-inactive : notActive status ≡ true → 0 ≡ magnitudeIn table point status
+    magnitude-inactive t = sym (substituted ∙ rw t)
 
     -- by status 0
-    pub magnitude-mean : status ≡ 0 → meanOf (existing (weeksOf table point)) ≡ magnitudeIn table point status
-    magnitude-mean z = sym (substituted ∙ rw (eq-eqb status 0 z))
+    pub magnitude-mean : notActive status ≡ false → meanOf (existing (weeksOf table point)) ≡ magnitudeIn table point status
+    magnitude-mean f = sym (substituted ∙ rw f)
 
 -- a value's magnitude and a substitute are within, where the values are
 pub from-within : (status : ℕ) (value : Option Value) (week : ℕ → Option Value) → Small value → ((n : ℕ) → n < 5 → Small (week n))
     → magnitudeFrom status value (map week fourWeeks) ≤ magnitudeMost
-from-within status none week h small = by-test (eqb status 0) (λ t. rw t (mean-within week small)) (λ f. rw f (omega arith))
+from-within status none week h small = by-test (notActive status) (λ t. rw t (omega arith)) (λ f. rw f (mean-within week small))
 from-within status (some value) week h small = h
 
 -- so the magnitude of a point is within

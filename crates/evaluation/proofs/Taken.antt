@@ -11,7 +11,7 @@ use borrow.Author.Tests.{le-leb, lt-leb}
 use Rattle.journal.specs.Entries.{pointPlaces}
 use Rattle.lists.proofs.Cases.{by-test}
 use Rattle.lists.proofs.Below.{and-late}
-use Rattle.evaluation.specs.Working.{isAt, TakenIn}
+use Rattle.evaluation.specs.Working.{weekPlaces, isAt, TakenIn}
 use Rattle.evaluation.proofs.Places.{at-tells, at-found}
 
 module _ (stamp place stored slot until : ℕ) (table : List ℕ) where
@@ -21,7 +21,7 @@ module _ (stamp place stored slot until : ℕ) (table : List ℕ) where
 
   module _ (h : slot < pointPlaces) where
     -- an entry of another quarter hour
-    pub taken-none : ((week : ℕ) → week < 5 → place % pointPlaces ≤ slot → slot - place % pointPlaces ≡ 700 * week → ⊥)
+    pub taken-none : ((week : ℕ) → week < 5 → place % pointPlaces ≤ slot → slot - place % pointPlaces ≡ weekPlaces * week → ⊥)
         → TakenIn stamp place stored slot until table table
     taken-none none point week p w =
         by-test (isAt place slot point week)
@@ -30,7 +30,7 @@ module _ (stamp place stored slot until : ℕ) (table : List ℕ) where
 
     -- an entry that gives its number
     pub taken-here : (point week : ℕ) → stamp ≤ until → 5 * point + week < length table → week < 5
-        → place / pointPlaces ≡ point → place % pointPlaces ≤ slot → slot - place % pointPlaces ≡ 700 * week
+        → place / pointPlaces ≡ point → place % pointPlaces ≤ slot → slot - place % pointPlaces ≡ weekPlaces * week
         → TakenIn stamp place stored slot until table (set table (5 * point + week) (stored + 1))
     taken-here point week k fits w p l e point′ week′ p′ w′ =
         by-test (isAt place slot point′ week′)

@@ -13,9 +13,9 @@ use Rattle.journal.specs.Readings.{shown, valueShown}
 use Rattle.journal.specs.Entries.{Entry, placeOf, readingsAt}
 use Rattle.journal.proofs.ShownLaws.{Rising, shown-nil}
 use Rattle.journal.proofs.Back.{last-shows, last-misses}
-use Rattle.evaluation.specs.Earlier.{earlier}
+use Rattle.evaluation.specs.Earlier.{weekDays, earlier}
 use Rattle.evaluation.specs.Substitutes.{valueAt}
-use Rattle.evaluation.specs.Working.{isAt}
+use Rattle.evaluation.specs.Working.{weekPlaces, isAt}
 use Rattle.evaluation.proofs.Places.{week-fits, week-none, week-place}
 
 -- two tests that both hold, or do not, in either order
@@ -45,17 +45,17 @@ module _ (T day quarter : ℕ) (h : 1 ≤ quarter) (k : quarter ≤ 100) (es : L
       ≡ cond (leb (e .stamp) T && isAt (e .place) (day * 100 + (quarter - 1)) point week) (some (valueIn (e .stored))) (valueIn-week es)
   unfolding earlier
   value-then e rising =
-      by-test (leb (7 * week) day)
+      by-test (leb (weekDays * week) day)
       (λ t.
-      let l = leb-true (7 * week) day t in
-      let in-slot = le-leb (700 * week) (day * 100 + (quarter - 1)) (week-fits day quarter point week h k l) in
+      let l = leb-true (weekDays * week) day t in
+      let in-slot = le-leb (weekPlaces * week) (day * 100 + (quarter - 1)) (week-fits day quarter point week h k l) in
       rw (t, in-slot, week-place day quarter point week h k l)
-      (shown-then T es e (placeOf point (day - 7 * week) quarter) (rising (placeOf point (day - 7 * week) quarter))))
+      (shown-then T es e (placeOf point (day - weekDays * week) quarter) (rising (placeOf point (day - weekDays * week) quarter))))
       (λ f.
-      let out = lt-leb (700 * week) (day * 100 + (quarter - 1)) (week-none day quarter point week h k (leb-false (7 * week) day f)) in
+      let out = lt-leb (weekPlaces * week) (day * 100 + (quarter - 1)) (week-none day quarter point week h k (leb-false (weekDays * week) day f)) in
       rw (f, out) (by-test (leb (e .stamp) T) (λ t. rw t) (λ f. rw f)))
 
   -- without entries nothing is shown
   pub value-none : valueIn-week [] ≡ none
   unfolding earlier
-  value-none = by-test (leb (7 * week) day) (λ t. rw (t, shown-nil)) (λ f. rw f)
+  value-none = by-test (leb (weekDays * week) day) (λ t. rw (t, shown-nil)) (λ f. rw f)

@@ -4,6 +4,10 @@ use mathlib.Core.Bool.{cond}
 use mathlib.Core.Option.{Option, none, some}
 use lib.Dec.{leb}
 
+-- the days of a week
+abbrev pub weekDays : ℕ
+weekDays = 7
+
 -- a quarter hour of a day
 pub record Slot : Type 0 where
   pub day : ℕ
@@ -12,4 +16,4 @@ pub record Slot : Type 0 where
 -- the quarter hour so many weeks before; none lies before day 0
 unfoldable pub earlier : (weeks day quarter : ℕ) → Option Slot
 earlier weeks day quarter =
-    cond (leb (7 * weeks) day) (some (record { day = day - 7 * weeks; quarter = quarter })) none
+    cond (leb (weekDays * weeks) day) (some (record { day = day - weekDays * weeks; quarter = quarter })) none

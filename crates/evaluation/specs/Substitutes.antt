@@ -1,9 +1,9 @@
 -- The value of a point in a quarter hour: its reading, or what stands in for a missing one. Assumes nothing.
 use Prim.Native.Nat.{ℕ}
-use mathlib.Core.Bool.{cond}
+use mathlib.Core.Bool.{Bool, cond}
 use mathlib.Core.List.{List, [], _∷_, map}
 use mathlib.Core.Option.{Option, none, some}
-use lib.Dec.{eqb}
+use lib.Dec.{ltb}
 use Rattle.journal.specs.Value.{Value}
 use Rattle.journal.specs.Order.{Reading}
 use Rattle.journal.specs.Readings.{shown, valueShown}
@@ -16,9 +16,13 @@ existing [] = []
 existing (none ∷ values) = existing values
 existing (some value ∷ values) = value .magnitude ∷ existing values
 
+-- whether a point with this status is not active: the status is above 0
+abbrev pub notActive : ℕ → Bool
+notActive status = ltb 0 status
+
 -- the substitute: with status above 0 it is 0, with status 0 the mean of the earlier weeks' values that exist
 abbrev pub substitute : (status : ℕ) → List (Option Value) → ℕ
-substitute status weeks = cond (eqb status 0) (meanOf (existing weeks)) 0
+substitute status weeks = cond (notActive status) 0 (meanOf (existing weeks))
 
 -- the reading's magnitude, or the substitute where there is no reading
 abbrev pub magnitudeFrom : (status : ℕ) → Option Value → List (Option Value) → ℕ

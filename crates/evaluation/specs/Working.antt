@@ -10,7 +10,7 @@ use lib.ListN.{length, getD}
 use Rattle.journal.specs.Value.{Value}
 use Rattle.journal.specs.Entries.{pointPlaces, Entry, placeOf, readingsAt}
 use Rattle.values.specs.Values.{magnitudeMost}
-use Rattle.evaluation.specs.Earlier.{earlier}
+use Rattle.evaluation.specs.Earlier.{weekDays, earlier}
 use Rattle.evaluation.specs.Substitutes.{magnitudeFrom, valueAt, fourWeeks}
 
 -- the value that a number of the table stands for: none for 0, else the magnitude one below it
@@ -38,9 +38,13 @@ magnitudeIn table point status = magnitudeFrom status (weekOf table point 0) (we
 abbrev pub Within : List ℕ → Type 0
 Within table = (point week : ℕ) → point < 64 → week < 5 → numberAt table point week ≤ magnitudeMost + 1
 
+-- how many places of a point a week has
+abbrev pub weekPlaces : ℕ
+weekPlaces = 100 * weekDays
+
 -- whether a place is that of a point so many weeks before a slot; a slot is a day and a quarter as one number, day × 100 + quarter − 1
 abbrev pub isAt : (place slot point week : ℕ) → Bool
-isAt place slot point week = leb (700 * week) slot && eqb place (pointPlaces * point + (slot - 700 * week))
+isAt place slot point week = leb (weekPlaces * week) slot && eqb place (pointPlaces * point + (slot - weekPlaces * week))
 
 -- an entry taken in: where it is in time, the number of its point and week is what it stores plus one; all other numbers stay
 abbrev pub TakenIn : (stamp place stored slot until : ℕ) → (before after : List ℕ) → Type 0

@@ -1,7 +1,7 @@
 -- `allocation::make_round` meets its contract: consumer by consumer, and priority by priority within its turn. Assumes nothing.
 use borrow.Author.Needs.{needs}
 use native.Mathlib.Omega.{arith}
-use native.Mathlib.Nat.{le-antisymm, le-trans, min-le-right}
+use native.Mathlib.Nat.{le-antisymm}
 use Prim.Native.Nat.{ℕ, _+_, _-_, _≤_, _<_}
 use mathlib.Core.Path.{_≡_, sym, _∙_}
 use lib.ListN.{length, getD}
@@ -82,7 +82,7 @@ share-is c =
 
 share-most : (c : Shared) → c .share-of .result ≤ magnitudeMost
 share-most c =
-    rw (c .share-of .ensures) (le-trans (min-le-right _ _) (offer-small _ _ magnitudeMost (pair (c .before) .key-most) (supply-most (c .before))))
+    omega (arith, c .share-of .ensures, offer-small _ _ magnitudeMost (pair (c .before) .key-most) (supply-most (c .before)))
 
 step : (c : In) → let n = c .before .loop2 .priority in
     Step (group c .counts) (group c .sources) (group c .keys) (c .before .before .before .before .before .before .before .before .args .t2) (group c .producers) (group c .consumers)

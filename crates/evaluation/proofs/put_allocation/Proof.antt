@@ -5,7 +5,7 @@ use mathlib.Core.Path.{_≡_}
 use lib.ListN.{length}
 use Rattle.allocation.specs.Working.{allocationIn}
 use Rattle.allocation.proofs.Shareable.{few-points}
-use Rattle.evaluation.proofs.Parts.{from-first, lengths-in, parts-put}
+use Rattle.evaluation.proofs.Parts.{same-places, lengths-in, parts-put}
 use Rattle.evaluation.proofs.put_allocation.Statement.{statement}
 use Rattle.evaluation.proofs.put_allocation.Tie as tie
 
@@ -52,8 +52,9 @@ returns c =
     let start = layout .before .before .before .before in
     let a = start .args in
     parts-put (a .registration) (allocationIn (a .registration) (a .allocated)) (lengths-in (a .registration) (a .allocated)) (a .out .now) (start .pre .1)
-    (layout .layout-of .ensures .withdrawals) (layout .layout-of .ensures .supplies) (shares .put-shares .ensures) (withdrawals .put-part .ensures)
-    (rw (from-first (a .allocated .left)) at (supplies .put-part2 .ensures))
+    (layout .layout-of .ensures .withdrawals) (layout .layout-of .ensures .supplies) (shares .put-shares .ensures)
+    (same-places (a .allocated .left) _ _ _ (λ i. omega arith)) (withdrawals .put-part .ensures)
+    (same-places (a .allocated .left) _ _ _ (λ i. omega arith)) (supplies .put-part2 .ensures)
 
 pub put-allocation-spec : {M : Type 1} → statement M
 put-allocation-spec =

@@ -9,7 +9,7 @@ use Rattle.lists.specs.Tables.{table}
 use Rattle.lists.proofs.Pieces.{Pieces, no-pieces, next-fits, one-more, all-put}
 use Rattle.lists.proofs.TableLaws.{length-table}
 use Rattle.registration.specs.Rules.{placeAt}
-use Rattle.allocation.proofs.Laws.{pairs-length}
+use Rattle.allocation.proofs.Pairs.{pairs-length}
 use Rattle.allocation.proofs.Shareable.{few-points, count-most}
 use Rattle.evaluation.proofs.put_shares.Statement.{statement}
 use Rattle.evaluation.proofs.put_shares.Tie as tie

@@ -5,6 +5,7 @@ use native.Mathlib.Omega.{arith}
 use Prim.Native.Nat.{_-_, _/_, _%_}
 use mathlib.Core.Path.{refl}
 use Rattle.journal.specs.Entries.{pointPlaces}
+use Rattle.evaluation.specs.Working.{weekPlaces}
 use Rattle.evaluation.proofs.Taken.{taken-late, taken-none, taken-here}
 use Rattle.evaluation.proofs.take_in.Statement.{statement}
 use Rattle.evaluation.proofs.take_in.Tie as tie
@@ -51,7 +52,7 @@ returns-5 : tie.Need-returns-5
 returns-5 c =
     let a = c .before .before .before .before .args in
     let back = a .slot - a .place % pointPlaces in
-    taken-here (a .stamp) (a .place) (a .stored) (a .slot) (a .until) (a .table .now) (c .before .before .before .before .pre .3) (a .place / pointPlaces) (back / 700) (omega arith) (omega arith) (omega arith) refl (omega arith) (omega arith)
+    taken-here (a .stamp) (a .place) (a .stored) (a .slot) (a .until) (a .table .now) (c .before .before .before .before .pre .3) (a .place / pointPlaces) (back / weekPlaces) (omega arith) (omega arith) (omega arith) refl (omega arith) (omega arith)
 
 pub take-in-spec : {M : Type 1} → statement M
 take-in-spec =
