@@ -14,7 +14,7 @@ use lib.Seq.{take-at, drop-at, take-add, length-take-le}
 use Rattle.columns.specs.declared.Number.{Number}
 use Rattle.columns.specs.declared.Number.the-variants.{Is, Bad}
 use Rattle.columns.specs.declared.Signed.the-variants.{Is as IsSigned}
-use Rattle.columns.specs.Column.{columnOf, signedColumnOf, valueFrom, isColumn, hasMinus, numberIf, numberIn, signedIf, signedIn, widest}
+use Rattle.columns.specs.Column.{columnOf, signedColumnOf, valueFrom, isColumn, hasMinus, numberIf, numberIn, signedIf, signedIn, spaceByte, widest}
 use Rattle.columns.specs.Fields.{total, columnsOf, withFirst, numbersIn}
 use Rattle.columns.specs.Laws.{NumberReadBack, NumberWrittenAgain, SignedReadBack, SignedWrittenAgain, FieldsReadBack, FieldsWrittenAgain, digits}
 use Rattle.columns.specs.Laws.{NumberLooks, SignedLooks, NumberReadLooks, SignedReadLooks}
@@ -32,7 +32,7 @@ pub use Rattle.columns.proofs.Lists.{fits-more, fits-first, fitting-len
 -- ---- one column
 
 -- what is written passes the reader's tests, if a space stands in front
-passes : (minus : Bool) (w n : ℕ) → w ≤ widest → n < 10 ^ w → getD (columnOf minus w n) 0 0 ≡ 32 → isColumn minus (columnOf minus w n) ≡ true
+passes : (minus : Bool) (w n : ℕ) → w ≤ widest → n < 10 ^ w → getD (columnOf minus w n) 0 0 ≡ spaceByte → isColumn minus (columnOf minus w n) ≡ true
 passes minus w n l m f = rw (length-column, le-leb w widest l, f, value-column minus w n m, same-self)
 
 more : (w n : ℕ) → n < 10 ^ w → n < 10 ^ suc w
@@ -50,12 +50,12 @@ number-read-back (suc (suc w)) n h l m =
 -- what the tests say of a column that passes them
 record Read (minus : Bool) (column : List ℕ) : Type 0 where
   narrow : length column ≤ widest
-  space : getD column 0 0 ≡ 32
+  space : getD column 0 0 ≡ spaceByte
   is : columnOf minus (length column) (valueFrom 0 column) ≡ column
 
 read : (minus : Bool) (column : List ℕ) → isColumn minus column ≡ true → Read minus column
 read minus column t =
-    let a = both (leb (length column) widest && eqb (getD column 0 0) 32) _ t in
+    let a = both (leb (length column) widest && eqb (getD column 0 0) spaceByte) _ t in
     let b = both (leb (length column) widest) _ (a .0) in
     record { narrow = leb-true _ _ (b .0); space = eqb-true _ _ (b .1); is = same-eq _ _ (a .1) }
 
