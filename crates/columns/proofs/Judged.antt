@@ -9,12 +9,12 @@ use lib.Dec.{leb, eqb}
 use lib.ListN.{length, getD}
 use Rattle.columns.specs.declared.Number.the-variants.{Bad}
 use Rattle.columns.specs.declared.Signed.the-variants.{Bad as BadSigned}
-use Rattle.columns.specs.Column.{columnOf, valueFrom, sameBytes, hasMinus, numberIf, numberIn, signedIf, signedIn, widest}
+use Rattle.columns.specs.Column.{columnOf, valueFrom, sameBytes, hasMinus, numberIf, numberIn, signedIf, signedIn, spaceByte, widest}
 use Rattle.lists.proofs.Below.{both}
 use Rattle.columns.proofs.Values.{value-room, most}
 
 abbrev pub begins : List ℕ → Bool
-begins column = leb (length column) widest && eqb (getD column 0 0) 32
+begins column = leb (length column) widest && eqb (getD column 0 0) spaceByte
 
 module _ (column : List ℕ) where
   pub narrow : begins column ≡ true → length column ≤ widest

@@ -1,4 +1,4 @@
--- What is written is read back, and what is read is what is written: one column, and several. Assumes nothing.
+-- What is written is read back, what is read is what is written, and how both look: one column, and several. Assumes nothing.
 use Prim.Native.Nat.{ℕ, zero, suc, _+_, _-_, _^_, _≤_, _<_}
 use mathlib.Core.Path.{_≡_, refl, sym, ap, _∙_}
 use mathlib.Core.Bool.{Bool, true, false, cond, not, _&&_}
@@ -14,14 +14,16 @@ use lib.Seq.{take-at, drop-at, take-add, length-take-le}
 use Rattle.columns.specs.declared.Number.{Number}
 use Rattle.columns.specs.declared.Number.the-variants.{Is, Bad}
 use Rattle.columns.specs.declared.Signed.the-variants.{Is as IsSigned}
-use Rattle.columns.specs.Column.{columnOf, signedColumnOf, valueFrom, isColumn, hasMinus, numberIf, numberIn, signedIf, signedIn, widest}
+use Rattle.columns.specs.Column.{columnOf, signedColumnOf, valueFrom, isColumn, hasMinus, numberIf, numberIn, signedIf, signedIn, spaceByte, widest}
 use Rattle.columns.specs.Fields.{total, columnsOf, withFirst, numbersIn}
 use Rattle.columns.specs.Laws.{NumberReadBack, NumberWrittenAgain, SignedReadBack, SignedWrittenAgain, FieldsReadBack, FieldsWrittenAgain, digits}
+use Rattle.columns.specs.Laws.{NumberLooks, SignedLooks, NumberReadLooks, SignedReadLooks}
 use Rattle.lists.proofs.Below.{both}
 use Rattle.columns.proofs.Same.{same-self, same-eq}
 use Rattle.columns.proofs.Values.{value-column, value-room, most}
 use Rattle.columns.proofs.Front.{space-number, space-negative, room-negative, two-places}
 use Rattle.columns.proofs.Minus.{no-minus, one-minus}
+use Rattle.columns.proofs.Shape.{positive-looks, negative-looks}
 pub use Rattle.columns.proofs.Clauses.{leadOf-suc, columnOf-suc, valueFrom-cons, sameBytes-cons, hasMinus-cons}
 pub use Rattle.columns.proofs.Clauses.{total-nil, total-cons, columnsOf-nil, columnsOf-cons, numbersIn-nil, numbersIn-cons, fitting-nil, fitting-cons}
 pub use Rattle.columns.proofs.Fill.{length-column}
@@ -30,7 +32,7 @@ pub use Rattle.columns.proofs.Lists.{fits-more, fits-first, fitting-len
 -- ---- one column
 
 -- what is written passes the reader's tests, if a space stands in front
-passes : (minus : Bool) (w n : ℕ) → w ≤ widest → n < 10 ^ w → getD (columnOf minus w n) 0 0 ≡ 32 → isColumn minus (columnOf minus w n) ≡ true
+passes : (minus : Bool) (w n : ℕ) → w ≤ widest → n < 10 ^ w → getD (columnOf minus w n) 0 0 ≡ spaceByte → isColumn minus (columnOf minus w n) ≡ true
 passes minus w n l m f = rw (length-column, le-leb w widest l, f, value-column minus w n m, same-self)
 
 more : (w n : ℕ) → n < 10 ^ w → n < 10 ^ suc w
@@ -48,12 +50,12 @@ number-read-back (suc (suc w)) n h l m =
 -- what the tests say of a column that passes them
 record Read (minus : Bool) (column : List ℕ) : Type 0 where
   narrow : length column ≤ widest
-  space : getD column 0 0 ≡ 32
+  space : getD column 0 0 ≡ spaceByte
   is : columnOf minus (length column) (valueFrom 0 column) ≡ column
 
 read : (minus : Bool) (column : List ℕ) → isColumn minus column ≡ true → Read minus column
 read minus column t =
-    let a = both (leb (length column) widest && eqb (getD column 0 0) 32) _ t in
+    let a = both (leb (length column) widest && eqb (getD column 0 0) spaceByte) _ t in
     let b = both (leb (length column) widest) _ (a .0) in
     record { narrow = leb-true _ _ (b .0); space = eqb-true _ _ (b .1); is = same-eq _ _ (a .1) }
 
@@ -118,6 +120,42 @@ signed-written-again column value e =
     let a = signed-if (isColumn minus column && not (minus && eqb n 0)) minus n value e in
     let b = both (isColumn minus column) _ (a .0) in
     rw (a .1) (written minus column n refl (read minus column (b .0)) (b .1))
+
+-- ---- how a column looks
+
+pub number-looks : NumberLooks
+number-looks zero n h m = absurd (omega arith)
+number-looks (suc zero) n h m = absurd (omega arith)
+number-looks (suc (suc w)) n h m = positive-looks w n (simp sub-one at m)
+
+pub signed-looks : SignedLooks
+signed-looks w (pos n) h m = number-looks w n h m
+signed-looks zero (negsuc n) h m = absurd (omega arith)
+signed-looks (suc zero) (negsuc n) h m = absurd (omega arith)
+signed-looks (suc (suc zero)) (negsuc n) h m = absurd (omega arith)
+signed-looks (suc (suc (suc w))) (negsuc n) h m =
+    let q : suc (suc (suc w)) - 2 ≡ suc w = omega arith in
+    negative-looks w (suc n) (rw q at m)
+
+pub number-read-looks : NumberReadLooks
+number-read-looks column n e =
+    let a = number-written-again column n e in
+    rw (a .0) at (number-looks (length column) n (a .1) (a .3))
+
+-- a column that is read as a signed value has two places or more
+signed-places : (column : List ℕ) (value : ℤ) → signedIn column ≡ IsSigned value → 2 ≤ length column
+unfolding signedIn
+signed-places column value e =
+    let minus = hasMinus column in
+    let n = valueFrom 0 column in
+    let a = signed-if (isColumn minus column && not (minus && eqb n 0)) minus n value e in
+    let r = read minus column (both (isColumn minus column) _ (a .0) .0) in
+    two-places column minus n (r .is) (r .space)
+
+pub signed-read-looks : SignedReadLooks
+signed-read-looks column value e =
+    let a = signed-written-again column value e in
+    rw (a .0) at (signed-looks (length column) value (signed-places column value e) (a .2))
 
 -- ---- several columns
 

@@ -6,4 +6,5 @@ pub mod Front
 pub mod Minus
 pub mod Judged
 pub mod Lists
+pub mod Shape
 pub mod Laws

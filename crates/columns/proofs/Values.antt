@@ -10,7 +10,7 @@ use borrow.Author.Tests.{le-ltb, ltb-false}
 use lib.Dec.{eqb, ltb, lit<, eqb·suc-zero}
 use lib.ListN.{length, getD, drop}
 use lib.Seq.{drop-cons, drop-length}
-use Rattle.columns.specs.Column.{byteBefore, leadOf, columnOf, digitOf, valueFrom}
+use Rattle.columns.specs.Column.{byteBefore, leadOf, columnOf, digitOf, valueFrom, spaceByte}
 
 pub value-step : (column : List ℕ) (v i : ℕ) → i < length column
     → valueFrom v (drop i column) ≡ valueFrom (v * 10 + digitOf (getD column i 0)) (drop (i + 1) column)
@@ -44,7 +44,7 @@ value-bound (byte ∷ bytes) k v h =
     rw (pow-suc 10 (length bytes)) (omega arith)
 
 -- a space in front leaves one place less to the digits
-pub value-room : (column : List ℕ) → getD column 0 0 ≡ 32 → (1 ≤ length column) × (valueFrom 0 column < 10 ^ (length column - 1))
+pub value-room : (column : List ℕ) → getD column 0 0 ≡ spaceByte → (1 ≤ length column) × (valueFrom 0 column < 10 ^ (length column - 1))
 unfolding valueFrom
 value-room [] e = absurd (omega arith)
 value-room (byte ∷ bytes) e =

@@ -14,9 +14,13 @@ use Rattle.columns.specs.declared.Signed.the-variants.{Is as IsSigned, B
 
 -- ---- what is written
 
+-- what fills a column before its digits
+abbrev pub spaceByte : ℕ
+spaceByte = 32
+
 -- n's last digit, 0 being none any more: then a minus where one is still due, and else a space
 abbrev pub byteBefore : Bool → ℕ → ℕ
-byteBefore minus n = cond (eqb n 0) (cond minus 45 32) (48 + n % 10)
+byteBefore minus n = cond (eqb n 0) (cond minus 45 spaceByte) (48 + n % 10)
 
 -- the bytes before the last digit: n's digits at the right end of w places, a minus if one is due, spaces
 unfoldable pub leadOf : Bool → ℕ → ℕ → List ℕ
@@ -57,7 +61,7 @@ widest = 19
 -- no wider than that, with a space in front, and otherwise just what is written of the value
 abbrev pub isColumn : Bool → List ℕ → Bool
 isColumn minus column =
-    leb (length column) widest && eqb (getD column 0 0) 32 && sameBytes (columnOf minus (length column) (valueFrom 0 column)) column
+    leb (length column) widest && eqb (getD column 0 0) spaceByte && sameBytes (columnOf minus (length column) (valueFrom 0 column)) column
 
 -- a number, if it was in its column
 abbrev pub numberIf : Bool → ℕ → Number

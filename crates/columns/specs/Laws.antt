@@ -1,11 +1,11 @@
 -- What columns promise, as statements; `proofs/Laws.antt` proves each, once over the width. Assumes nothing.
-use Prim.Native.Nat.{ℕ, _-_, _^_, _≤_, _<_}
+use Prim.Native.Nat.{ℕ, _+_, _-_, _*_, _^_, _≤_, _<_}
 use mathlib.Core.Path.{_≡_}
 use mathlib.Core.Bool.{true, false, cond}
-use mathlib.Core.List.{List, _++_}
+use mathlib.Core.List.{List, [], _∷_, _++_}
 use mathlib.Core.Option.{some}
-use lib.IntN.{ℤ, natAbs}
-use lib.ListN.{length, take}
+use lib.IntN.{ℤ, pos, negsuc, natAbs}
+use lib.ListN.{length, getD, take, replicate}
 use Rattle.values.specs.Values.{isNegative}
 use Rattle.columns.specs.declared.Number.the-variants.{Is}
 use Rattle.columns.specs.declared.Signed.the-variants.{Is as IsSigned}
@@ -36,6 +36,51 @@ abbrev pub SignedWrittenAgain : Type 0
 SignedWrittenAgain =
     (column : List ℕ) (value : ℤ) → signedIn column ≡ IsSigned value
     → (signedColumnOf (length column) value ≡ column) × (length column ≤ widest) × (natAbs value < 10 ^ digits (length column) value)
+
+-- ---- how a column looks
+
+-- the number that bytes make as decimal digits, after v
+unfoldable pub decimalFrom : ℕ → List ℕ → ℕ
+decimalFrom v [] = v
+decimalFrom v (byte ∷ bytes) = decimalFrom (v * 10 + (byte - 48)) bytes
+
+-- w bytes: spaces (32), at least one; the sign's byte where there is one; then n in decimal digits (48 to 57), with no leading 0 (48): 0 is the digit 0 alone
+pub record Looks (sign : List ℕ) (w n : ℕ) (column : List ℕ) : Type 0 where
+  pub spaces : ℕ
+  pub decimals : List ℕ
+  pub whole : column ≡ replicate spaces 32 ++ (sign ++ decimals)
+  pub width : length column ≡ w
+  pub space : 1 ≤ spaces
+  pub digit : 1 ≤ length decimals
+  pub each : (i : ℕ) → i < length decimals → (48 ≤ getD decimals i 0) × (getD decimals i 0 ≤ 57)
+  pub leading : getD decimals 0 0 ≡ 48 → n ≡ 0
+  pub none : n ≡ 0 → decimals ≡ 48 ∷ []
+  pub value : decimalFrom 0 decimals ≡ n
+
+-- the column of a number that leaves a place for the leading space is spaces and the number's digits
+abbrev pub NumberLooks : Type 0
+NumberLooks = (w n : ℕ) → 2 ≤ w → n < 10 ^ (w - 1) → Looks [] w n (columnOf false w n)
+
+-- the sign of a value: a minus (45) below 0, and otherwise nothing
+abbrev pub signOf : ℤ → List ℕ
+signOf (pos n) = []
+signOf (negsuc n) = 45 ∷ []
+
+-- the column of a signed value that leaves a place for its sign and the leading space is spaces, the sign and the magnitude's digits
+abbrev pub SignedLooks : Type 0
+SignedLooks =
+    (w : ℕ) (value : ℤ) → 2 ≤ w → natAbs value < 10 ^ digits w value → Looks (signOf value) w (natAbs value) (signedColumnOf w value)
+
+-- a column that is read as a number is spaces and that number's digits
+abbrev pub NumberReadLooks : Type 0
+NumberReadLooks = (column : List ℕ) (n : ℕ) → numberIn column ≡ Is n → Looks [] (length column) n column
+
+-- a column that is read as a signed value is spaces, its sign and its magnitude's digits
+abbrev pub SignedReadLooks : Type 0
+SignedReadLooks =
+    (column : List ℕ) (value : ℤ) → signedIn column ≡ IsSigned value → Looks (signOf value) (length column) (natAbs value) column
+
+-- ---- several columns
 
 -- numbers that fit are read back from their columns, whatever follows
 abbrev pub FieldsReadBack : Type 0

@@ -5,7 +5,7 @@ ghost use mathlib.Core.List.{[], _∷_};
 ghost use Prim.Native.Nat.{_+_, _≤_, _<_};
 ghost use lib.Dec.{leb, eqb};
 ghost use lib.ListN.{length, getD};
-ghost use Rattle.columns.specs.Column.{byteBefore, columnOf, signedColumnOf, digitOf, valueFrom, sameBytes, hasMinus, numberIn, signedIn, widest};
+ghost use Rattle.columns.specs.Column.{byteBefore, columnOf, signedColumnOf, digitOf, valueFrom, sameBytes, hasMinus, numberIn, signedIn, spaceByte, widest};
 ghost use Rattle.lists.specs.Place.{Put};
 
 // What stands in a column of a number.
@@ -115,7 +115,7 @@ fn value_of(column: &[u8]) -> u64
 
 // Whether a column is narrow enough and has a space in front.
 fn begins_well(column: &[u8]) -> bool
-    ensures { λ r. ⌜ r ≡ (leb (length (now (column .entry))) widest && eqb (getD (now (column .entry)) 0 0) 32) ⌝ }
+    ensures { λ r. ⌜ r ≡ (leb (length (now (column .entry))) widest && eqb (getD (now (column .entry)) 0 0) spaceByte) ⌝ }
 {
     if WIDEST < column.len() {
         return false;

@@ -1,4 +1,5 @@
 pub mod Cases
+pub mod WriterCases
 pub mod Fronts
 pub mod Named
 pub mod ConsumerLine

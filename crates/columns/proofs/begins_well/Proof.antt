@@ -8,10 +8,11 @@ use borrow.Author.Tests.{lt-leb, le-leb}
 use borrow.Author.Needs.{needs}
 use lib.Dec.{eqb}
 use lib.ListN.{length, getD}
+use Rattle.columns.specs.Column.{spaceByte}
 use Rattle.columns.proofs.begins_well.Statement.{statement}
 use Rattle.columns.proofs.begins_well.Tie as tie
 
-no-first : (column : List ℕ) → length column ≡ 0 → eqb (getD column 0 0) 32 ≡ false
+no-first : (column : List ℕ) → length column ≡ 0 → eqb (getD column 0 0) spaceByte ≡ false
 no-first [] e = refl
 no-first (x ∷ column) e = absurd (omega arith)
 

@@ -21,7 +21,7 @@ of c = c .before .before .before .before .before .args .registration
 
 -- the text fits the buffer
 fits : (c : tie.Else2) → length (textOf (of c)) ≤ length (c .before .before .before .before .before .args .out .now)
-fits c = rw (c .before .size .ensures) at (c .if2 .left)
+fits c = omega (arith, rw (c .before .size .ensures) at (c .if2 .left))
 
 damaged-requires : tie.Need-damaged-requires
 damaged-requires c κs = search needs
