@@ -1,4 +1,4 @@
--- Entries in a journal: what is written is read again, what is read is written again, one more entry is three numbers placed,
+-- Entries in a journal: what is written is read again, and what stands behind it; what is read is written again; one more entry is three numbers placed;
 -- and the entries from number i on are entry i and those from i + 1 on. Assumes nothing.
 use Prim.Native.Nat.{ℕ, zero, suc, _+_, _*_, _-_, _≤_, _<_}
 use native.Mathlib.Omega.{arith}
@@ -6,8 +6,8 @@ use native.Mathlib.Nat.{add-zero}
 use native.Mathlib.Numerals.{add-one, add-two}
 use mathlib.Core.Path.{_≡_, refl, _∙_, ap}
 use mathlib.Core.List.{List, [], _∷_, _++_, append-assoc}
-use lib.ListN.{length, take, drop, set, take-append-drop, length-append, length-replicate, length-drop}
-use lib.Seq.{drop-drop, getD-drop, sets-eq}
+use lib.ListN.{length, getD, take, drop, set, replicate, take-append-drop, length-append, length-replicate, length-drop, getD-replicate, List·getD-append}
+use lib.Seq.{drop-drop, getD-drop, getD-append-add, sets-eq}
 use Rattle.lists.specs.Place.{placed}
 use Rattle.journal.specs.Entries.{Entry}
 use Rattle.journal.specs.Stored.{entryAt, entries, numbers, flat, written}
@@ -34,6 +34,34 @@ length-entries (suc n) j = ap suc (length-entries n (drop 3 j))
 pub length-written : (es : List Entry) (emptied : ℕ) (j : List ℕ) → 3 * (length es + emptied) ≤ length j → length (written es emptied j) ≡ length j
 unfolding written
 length-written es emptied j h = simp (length-append, length-flat, length-replicate, length-drop) (omega arith)
+
+-- behind the entries: zeros, and then the numbers that stay
+module _ (es : List Entry) (emptied : ℕ) (j : List ℕ) (place : ℕ) where
+  -- a number behind the entries, by how far behind
+  behind : (i : ℕ) → place ≡ 3 * length es + i
+      → getD (written es emptied j) place 0 ≡ getD (replicate (3 * emptied) 0 ++ drop (3 * (length es + emptied)) j) i 0
+  unfolding written
+  behind i e =
+      let p : place ≡ length (flat es) + i = omega (arith, length-flat es) in
+      rw p (getD-append-add (flat es) (replicate (3 * emptied) 0 ++ drop (3 * (length es + emptied)) j) i 0)
+
+  pub emptied-zero : 3 * length es ≤ place → place < 3 * length es + 3 * emptied → getD (written es emptied j) place 0 ≡ 0
+  emptied-zero l h =
+      let zeros : List ℕ = replicate (3 * emptied) 0 in
+      let i = place - 3 * length es in
+      behind i (omega arith)
+      ∙ List·getD-append zeros (drop (3 * (length es + emptied)) j) 0 i (omega (arith, length-replicate {A = ℕ} (3 * emptied) 0))
+      ∙ getD-replicate (3 * emptied) i 0 0 (omega arith)
+
+  pub later-stay : 3 * length es + 3 * emptied ≤ place → getD (written es emptied j) place 0 ≡ getD j place 0
+  later-stay l =
+      let zeros : List ℕ = replicate (3 * emptied) 0 in
+      let k = 3 * (length es + emptied) in
+      let i = place - k in
+      behind (length zeros + i) (omega (arith, length-replicate {A = ℕ} (3 * emptied) 0))
+      ∙ getD-append-add zeros (drop k j) i 0
+      ∙ getD-drop k j i 0
+      ∙ ap (λ (n : ℕ). getD j n 0) (omega arith)
 
 -- what is read is written again
 pub flat-entries : (n : ℕ) (j : List ℕ) → 3 * n ≤ length j → flat (entries n j) ≡ take (3 * n) j
