@@ -1,14 +1,14 @@
 -- The newest reading that the book has for a measurement, told by its notes. Assumes nothing.
 use Prim.Native.Nat.{ℕ}
 use mathlib.Core.Path.{_≡_, refl}
-use mathlib.Core.Bool.{true, _&&_}
+use mathlib.Core.Bool.{true, false, true≢false}
 use mathlib.Core.Logic.{⊎-elim}
 use mathlib.Core.List.{List, [], _∷_, map, List·Memᴰ, List·Memᴰ·cases-cons, List·Memᴰ·not-nil, List·Memᴰ·head, List·Memᴰ·tail}
 use mathlib.Core.Option.{Option, none, some}
 use lib.Dec.{eqb}
 use borrow.Author.Tests.{eqb-true, eq-eqb}
 use Rattle.lists.specs.Those.{those}
-use Rattle.lists.proofs.Below.{and-left, and-right}
+use Rattle.lists.proofs.Cases.{by-test}
 use Rattle.lists.proofs.Those.{those-pass}
 use Rattle.values.specs.declared.Measurement.{Measurement}
 use Rattle.journal.specs.Order.{Reading}
@@ -52,14 +52,21 @@ module _ (page : Page) (m : Measurement) where
   abbrev notes : List Note
   notes = those (isFor (m .code) (m .day) (m .quarter)) (page .notes)
 
+  -- a note that is for it is of its code, day and quarter
   of-told : (note : Note) → isFor (m .code) (m .day) (m .quarter) note ≡ true → IsOf m note
   of-told note t =
-      let c = eqb (note .code) (m .code) in
-      let d = eqb (note .day) (m .day) in
-      let q = eqb (note .quarter) (m .quarter) in
-      let two = and-left (c && d) q t in
-      record { code = eqb-true _ _ (and-left c d two); day = eqb-true _ _ (and-right c d two); quarter = eqb-true _ _ (and-right (c && d) q t) }
+      let never : true ≡ false → IsOf m note = λ z. absurd (true≢false z) in
+      by-test (eqb (note .code) (m .code))
+      (λ c. by-test (eqb (note .day) (m .day))
+      (λ d. by-test (eqb (note .quarter) (m .quarter))
+      (λ q. record { code = eqb-true _ _ c; day = eqb-true _ _ d; quarter = eqb-true _ _ q })
+      (λ q. never (cc)))
+      (λ d. by-test (eqb (note .quarter) (m .quarter)) (λ q. never (cc)) (λ q. never (cc))))
+      (λ c. by-test (eqb (note .day) (m .day))
+      (λ d. by-test (eqb (note .quarter) (m .quarter)) (λ q. never (cc)) (λ q. never (cc)))
+      (λ d. by-test (eqb (note .quarter) (m .quarter)) (λ q. never (cc)) (λ q. never (cc))))
 
+  -- and one that is of them is for it
   for : (note : Note) → IsOf m note → isFor (m .code) (m .day) (m .quarter) note ≡ true
   for note k = cc (eq-eqb _ _ (k .code), eq-eqb _ _ (k .day), eq-eqb _ _ (k .quarter))
 
