@@ -10,3 +10,4 @@ pub mod OneCall
 pub mod Later
 pub mod Joint
 pub mod Demand3
+pub mod Laws

@@ -22,7 +22,7 @@ use Rattle.group.proofs.Admitted.{Admitted}
 use Rattle.service.proofs.Staying.{sound-more}
 use Rattle.demand3.proofs.SamePlace.{same-place}
 use Rattle.demand3.proofs.Related.{Related, Open, newest-shown}
-use Rattle.demand3.proofs.Noted.{noted-more, under-noted}
+use Rattle.demand3.proofs.Noted.{is-for, noted-more, under-noted}
 
 module _ (last : ℕ) (G : Group) (clock : ℕ) (m : Measurement) (page : Page) (rel : Related last G page) (a : Admitted last G clock m) where
   -- the reading that a repeat is judged by is the book's newest
@@ -62,10 +62,10 @@ module _ (last : ℕ) (G : Group) (clock : ℕ) (m : Measurement) (page : Page) 
       rw (readings-append (G .entries) (entry ∷ []) place, noted-more page note c d q)
       (by-test (isFor c d q note)
       (λ t.
-      let u : eqb (placeFor G (m .code) (m .day) (m .quarter)) place ≡ true = cc in
+      let u : eqb (placeFor G (m .code) (m .day) (m .quarter)) place ≡ true = cc (is-for c d q note) in
       rw (u, t) (shown-snoc T (readingsAt (G .entries) place) (noted page c d q) (note .reading) old))
       (λ t.
-      let u : eqb (placeFor G (m .code) (m .day) (m .quarter)) place ≡ false = cc in
+      let u : eqb (placeFor G (m .code) (m .day) (m .quarter)) place ≡ false = cc (is-for c d q note) in
       rw (u, t) (simp append-nil old)))
 
   -- the group with the entry is related to the page with the note

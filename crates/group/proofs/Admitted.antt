@@ -17,7 +17,8 @@ use Rattle.calendar.specs.Quarters.{quarterExists}
 use Rattle.evaluation.specs.Layout.{sizeOf}
 use Rattle.points.specs.Points.{indexOf}
 use Rattle.group.specs.Group.{Group, rollOf}
-use Rattle.group.specs.Refusals.{stampMost, repeats, earliest, submissionVerdict, clearVerdict, evaluationVerdict}
+use Rattle.group.specs.Refusals.{repeats, earliest, submissionVerdict, clearVerdict, evaluationVerdict}
+use Rattle.group.specs.Stamps.{stampMost}
 use Rattle.group.proofs.Sound.{Sound, undamaged-sound}
 
 module _ (last : ℕ) (G : Group) (clock : ℕ) (m : Measurement) where
@@ -76,7 +77,7 @@ module _ (last : ℕ) (G : Group) (day stamp : ℕ) where
         sound = undamaged-sound last G (a .0);
         day-most = leb-true _ _ (not-false _ (b .0));
         not-cleared = ltb-false _ _ (c .0);
-        from = ltb-false _ _ (d .0);
+        from = omega (arith, ltb-false, d .0);
         to = ltb-false _ _ (e .0);
       }
 

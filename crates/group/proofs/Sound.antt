@@ -9,7 +9,8 @@ use Rattle.calendar.specs.Dates.{lastDay}
 use Rattle.registration.specs.Damage.{isDamaged}
 use Rattle.journal.specs.Damage.{entriesRight}
 use Rattle.group.specs.Group.{Group, rollOf}
-use Rattle.group.specs.Refusals.{stampMost, damaged}
+use Rattle.group.specs.Refusals.{damaged}
+use Rattle.group.specs.Stamps.{stampMost}
 
 -- each part of what is not damaged
 pub record Sound (last : ℕ) (G : Group) : Type 0 where

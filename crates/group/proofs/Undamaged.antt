@@ -17,7 +17,8 @@ use Rattle.journal.proofs.Stored.{length-entries}
 use Rattle.group.specs.declared.Numbers.{Numbers}
 use Rattle.group.specs.Held.{groupIn}
 use Rattle.group.specs.Group.{Group}
-use Rattle.group.specs.Refusals.{stampMost, damaged}
+use Rattle.group.specs.Refusals.{damaged}
+use Rattle.group.specs.Stamps.{stampMost}
 use Rattle.lists.proofs.Cases.{by-test}
 use Rattle.group.proofs.Sound.{Sound, undamaged-sound}
 

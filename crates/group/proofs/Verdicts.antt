@@ -15,7 +15,8 @@ use Rattle.calendar.specs.Quarters.{quarterExists}
 use Rattle.evaluation.specs.Layout.{sizeOf}
 use Rattle.points.specs.Points.{indexOf, has, signSuits}
 use Rattle.group.specs.Group.{Group, rollOf}
-use Rattle.group.specs.Refusals.{damaged, repeats, full, earliest, stampMost, submissionVerdict, clearVerdict, evaluationVerdict}
+use Rattle.group.specs.Refusals.{damaged, repeats, full, earliest, submissionVerdict, clearVerdict, evaluationVerdict}
+use Rattle.group.specs.Stamps.{stampMost}
 
 module _ (last : ℕ) (G : Group) (clock : ℕ) (m : Measurement) where
   pub submission-damaged : damaged last G ≡ true → Refused Damaged ≡ submissionVerdict last G clock m

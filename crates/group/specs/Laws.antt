@@ -11,6 +11,10 @@ use Rattle.group.specs.Stamps.{nextStamp}
 abbrev pub NextStampRises : Type 0
 NextStampRises = (clock last : ℕ) → (last < nextStamp clock last) × (clock ≤ nextStamp clock last)
 
+-- where the clock is above the last stamp the new stamp is the clock, otherwise it is the last stamp + 1
+abbrev pub NextStampIs : Type 0
+NextStampIs = (clock last : ℕ) → (last < clock → nextStamp clock last ≡ clock) × (clock ≤ last → nextStamp clock last ≡ last + 1)
+
 -- no day of the four weeks before one that is evaluated is cleared; 28 stands here as a number, so that the law does not follow the definition
 abbrev pub FourWeeksKept : Type 0
 FourWeeksKept =

@@ -1,6 +1,6 @@
 pub mod Group
-pub mod Refusals
 pub mod Stamps
+pub mod Refusals
 pub mod Held
 pub mod Laws
 pub mod Working

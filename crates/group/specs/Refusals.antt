@@ -20,10 +20,7 @@ use Rattle.journal.specs.Damage.{entriesRight}
 use Rattle.points.specs.Points.{indexOf, has, signSuits}
 use Rattle.values.specs.declared.Measurement.{Measurement}
 use Rattle.group.specs.Group.{Group, rollOf, readingsFor}
-
--- the greatest stamp and clock
-abbrev pub stampMost : ℕ
-stampMost = 999999999999
+use Rattle.group.specs.Stamps.{stampMost}
 
 -- registration, record or journal damaged: P above the last stamp, the last stamp above 999999999999, K above 27758, more entries than the journal
 -- holds, an entry that is not right

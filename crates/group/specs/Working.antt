@@ -10,11 +10,15 @@ use Rattle.answers.specs.declared.Verdict.the-variants.{Accepted, Refused}
 use Rattle.values.specs.declared.Measurement.{Measurement}
 use Rattle.journal.specs.Value.{Value, valueOf, storedOf}
 use Rattle.journal.specs.Order.{Reading}
-use Rattle.journal.specs.Readings.{sameAs, stampOf}
+use Rattle.journal.specs.Readings.{shown, sameAs, stampOf}
 use Rattle.group.specs.declared.Looked.{Looked}
-use Rattle.group.specs.Group.{Group, placeFor}
+use Rattle.group.specs.Group.{Group, placeFor, readingsFor}
 use Rattle.group.specs.Refusals.{repeats, submissionVerdict}
-use Rattle.group.specs.Stamps.{nextStamp, stampFor}
+use Rattle.group.specs.Stamps.{nextStamp}
+
+-- the stamp that an accepted submission returns: that of the reading shown where it repeats it, otherwise a new one
+abbrev pub stampFor : (last : ℕ) → Group → (clock : ℕ) → Measurement → ℕ
+stampFor last G clock m = cond (repeats last G m) (stampOf (shown last (readingsFor G m))) (nextStamp clock last)
 
 -- what is looked up for a refused submission: zeros
 abbrev pub refusedLook : Refusal → Looked

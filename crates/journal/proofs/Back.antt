@@ -18,6 +18,7 @@ use Rattle.journal.specs.Readings.{shown}
 use Rattle.journal.specs.Entries.{Entry, readingOf, readingsAt}
 use Rattle.journal.specs.Stored.{entryAt, entries}
 use Rattle.journal.specs.Damage.{Right}
+use Rattle.journal.proofs.InTime.{in-time}
 use Rattle.journal.proofs.ShownLaws.{Rising, shown-nil, shown-late}
 use Rattle.journal.proofs.Kept.{readings-append}
 use Rattle.journal.proofs.Entries.{right-rising}
@@ -54,10 +55,10 @@ rising-last lo (x ∷ rs) r h = omega (arith, rising-last (x .stamp) rs r (h .1)
 
 pub shown-last : (T lo : ℕ) (rs : List Reading) (r : Reading) → Rising lo (rs ++ (r ∷ [])) → r .stamp ≤ T → shown T (rs ++ (r ∷ [])) ≡ some r
 unfolding shown weaker
-shown-last T lo [] r h l = cc (le-leb (r .stamp) T l)
+shown-last T lo [] r h l = cc (in-time T r l)
 shown-last T lo (x ∷ rs) r h l =
     let under : x .stamp < r .stamp = rising-last (x .stamp) rs r (h .1) in
-    cc (le-leb (x .stamp) T (omega arith), le-leb (x .stamp) (r .stamp) (omega arith), shown-last T (x .stamp) rs r (h .1) l)
+    cc (in-time T x (omega arith), le-leb (x .stamp) (r .stamp) (omega arith), shown-last T (x .stamp) rs r (h .1) l)
 
 -- ---- an entry more, of a place or not, up to T or not
 module _ (T p : ℕ) (es : List Entry) (e : Entry) where

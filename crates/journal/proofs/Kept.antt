@@ -3,11 +3,11 @@ use Prim.Native.Nat.{ℕ, _≤_}
 use mathlib.Core.Path.{_≡_, refl}
 use mathlib.Core.Bool.{true}
 use mathlib.Core.List.{List, [], _∷_, _++_}
-use lib.Dec.{leb, eqb}
+use lib.Dec.{leb, ltb, eqb}
 use lib.ListN.{length}
 use borrow.Author.Tests.{eqb-true, le-leb}
 use Rattle.lists.specs.Those.{those}
-use Rattle.journal.specs.Readings.{shown}
+use Rattle.journal.specs.Readings.{shown, hasStamp}
 use Rattle.journal.specs.Entries.{Entry, dayIn, readingOf, readingsAt, kept, keep}
 use Rattle.lists.proofs.Cases.{by-test}
 use Rattle.lists.proofs.Those.{those-append, map-append, length-those}
@@ -18,13 +18,21 @@ readings-append es fs p =
     cc (those-append (λ e. eqb (e .place) p) es fs, map-append readingOf (those (λ e. eqb (e .place) p) es) (those (λ e. eqb (e .place) p) fs))
 
 module _ (K P p : ℕ) (es : List Entry) (h : leb K (dayIn p) ≡ true) where
+  -- an entry of the place is kept where its reading stays
+  kept-stays : (x : Entry) → x .place ≡ p → kept K P es x ≡ stays P (shown P (readingsAt es p)) (readingOf x)
+  kept-stays x q =
+      rw (q, h)
+      (by-test (ltb P (x .stamp))
+      (λ t. by-test (hasStamp (shown P (readingsAt es p)) (x .stamp)) (λ u. cc) (λ u. cc))
+      (λ t. by-test (hasStamp (shown P (readingsAt es p)) (x .stamp)) (λ u. cc) (λ u. cc)))
+
   readings-kept : (xs : List Entry) → readingsAt (those (kept K P es) xs) p ≡ those (stays P (shown P (readingsAt es p))) (readingsAt xs p)
   readings-kept [] = refl
   readings-kept (x ∷ xs) =
       by-test (eqb (x .place) p)
       (λ e.
       let q : x .place ≡ p = eqb-true (x .place) p e in
-      let k : kept K P es x ≡ stays P (shown P (readingsAt es p)) (readingOf x) = rw (q, h) in
+      let k : kept K P es x ≡ stays P (shown P (readingsAt es p)) (readingOf x) = kept-stays x q in
       by-test (stays P (shown P (readingsAt es p)) (readingOf x)) (λ t. cc (readings-kept xs)) (λ t. cc (readings-kept xs)))
       (λ e. by-test (kept K P es x) (λ t. cc (readings-kept xs)) (λ t. cc (readings-kept xs)))
 

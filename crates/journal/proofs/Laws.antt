@@ -1,7 +1,7 @@
 -- What users of the journal rely on. Assumes nothing.
 use Prim.Native.Nat.{ℕ}
 use mathlib.Core.Path.{_≡_}
-use mathlib.Core.Bool.{true, false, _||_, false≢true}
+use mathlib.Core.Bool.{true, false, false≢true}
 use mathlib.Core.List.{List}
 use mathlib.Core.Option.{Option, none, some}
 use native.Mathlib.Omega.{arith}
@@ -10,17 +10,27 @@ use borrow.Author.Tests.{leb-true, ltb-true, eqb-true}
 use Rattle.lists.proofs.Cases.{by-test, by-option}
 use Rattle.lists.proofs.Below.{and-left, and-right}
 use Rattle.journal.specs.Order.{Reading, weaker}
-use Rattle.journal.specs.Readings.{shown, hasStamp}
+use Rattle.journal.specs.Readings.{strongest, shown, hasStamp}
 use Rattle.journal.specs.Entries.{dayIn, readingsAt, kept, keep}
-use Rattle.journal.specs.Laws.{IsNewest, ShowsNewest, ShownIsNewest, PlaceTells, KeepShows, KeepsNoOlder, EntriesReadAgain}
+use Rattle.journal.specs.Laws.{FindsGreatest, StrongestIsNewest, IsNewest, ShowsNewest, ShownIsNewest, PlaceTells, KeepShows, KeepsNoOlder, EntriesReadAgain, LaterNumbersStay}
 use Rattle.lists.proofs.Those.{those-pass}
+use Rattle.journal.proofs.Strongest.{FindsStrongest, finds-strongest}
 use Rattle.journal.proofs.Literal.{Tells, shown-tells}
 use Rattle.journal.proofs.PlaceLaws.{pointIn-place, dayIn-place, quarterIn-place}
 use Rattle.journal.proofs.Entries.{right-rising}
 use Rattle.journal.proofs.Kept.{shown-keep}
-use Rattle.journal.proofs.Stored.{entries-written}
+use Rattle.journal.proofs.Stored.{entries-written, emptied-zero, later-stay}
 
 -- a reading gives way only to one with a stamp at least as great
+greatest-told : (rs : List Reading) (o : Option Reading) → FindsStrongest rs o → FindsGreatest rs o
+unfolding weaker
+greatest-told rs none h = h
+greatest-told rs (some m) h = record { among = h .among; greatest = λ r a. leb-true (r .stamp) (m .stamp) (h .over r a) }
+
+pub strongest-is-newest : StrongestIsNewest
+strongest-is-newest rs = greatest-told rs (strongest rs) (finds-strongest rs)
+
+-- the same of those in time
 newest-told : (T : ℕ) (rs : List Reading) (o : Option Reading) → Tells T rs o → ShowsNewest T rs o
 unfolding weaker
 newest-told T rs none h = h
@@ -43,18 +53,23 @@ keeps-no-older K P es e m =
     let rs = readingsAt es (e .place) in
     let day = leb K (dayIn (e .place)) in
     let t : kept K P es e ≡ true = those-pass (kept K P es) e es m in
-    let u : ltb P (e .stamp) || hasStamp (shown P rs) (e .stamp) ≡ true = and-right day _ t in (
+    let u = and-right day _ t in (
       leb-true K (dayIn (e .place)) (and-left day _ t),
       λ r a l.
           by-test (ltb P (e .stamp))
           (λ h. omega (arith, ltb-true P (e .stamp) h))
-          (λ h. by-option (shown P rs)
-          (λ n. let z : false ≡ true = rw (h, n) at u in absurd (false≢true z))
+          (λ h. by-test (hasStamp (shown P rs) (e .stamp))
+          (λ k. by-option (shown P rs)
+          (λ n. let z : false ≡ true = rw n at k in absurd (false≢true z))
           (λ s n.
           let newest : IsNewest P rs s = rw n at (shown-is-newest P rs) in
-          let same : s .stamp ≡ e .stamp = eqb-true (s .stamp) (e .stamp) (rw (h, n) at u) in
-          omega (arith, newest .greatest r a l))),
+          let same : s .stamp ≡ e .stamp = eqb-true (s .stamp) (e .stamp) (rw n at k) in
+          omega (arith, newest .greatest r a l)))
+          (λ k. let z : false ≡ true = cc in absurd (false≢true z))),
     )
 
 pub entries-read-again : EntriesReadAgain
 entries-read-again es emptied j = entries-written es emptied j
+
+pub later-numbers-stay : LaterNumbersStay
+later-numbers-stay es emptied j place = (emptied-zero es emptied j place, later-stay es emptied j place)

@@ -1,5 +1,8 @@
 pub mod Order
+pub mod InTime
+pub mod Strongest
 pub mod ShownLaws
+pub mod Among
 pub mod Literal
 pub mod PlaceLaws
 pub mod Kept
@@ -8,3 +11,4 @@ pub mod Stored
 pub mod Back
 pub mod Rules
 pub mod Laws
+pub mod Cases

@@ -3,16 +3,19 @@ use Prim.Native.Nat.{ℕ, _≤_, _<_}
 use native.Mathlib.Omega.{arith}
 use mathlib.Core.Path.{_≡_, refl, sym, _∙_, ap}
 use mathlib.Core.Bool.{Bool, _||_, true≢false}
-use mathlib.Core.List.{List, [], _∷_, _++_}
+use mathlib.Core.Logic.{⊎-elim}
+use mathlib.Core.List.{List, [], _∷_, _++_, List·Memᴰ, List·Memᴰ·cases-cons, List·Memᴰ·not-nil}
 use mathlib.Core.Option.{Option, none, some}
-use lib.Dec.{leb, ltb}
-use borrow.Author.Tests.{leb-true, leb-false, lt-ltb, le-ltb, le-leb, lt-leb, eq-eqb, ne-eqb}
+use lib.Dec.{ltb}
+use borrow.Author.Tests.{lt-ltb, le-ltb, eq-eqb, ne-eqb}
 use Rattle.journal.specs.Order.{Reading, weaker}
 use Rattle.lists.specs.Those.{those}
-use Rattle.journal.specs.Readings.{prefer, join, strongest, asOf, shown, hasStamp}
+use Rattle.journal.specs.Readings.{prefer, join, strongest, inTime, asOf, shown, hasStamp}
 use Rattle.lists.proofs.Cases.{by-test, by-option}
 use Rattle.lists.proofs.Those.{those-append}
 use Rattle.journal.proofs.Order.{weaker-total, weaker-trans}
+use Rattle.journal.proofs.InTime.{in-time, late, in-time-told, late-told}
+use Rattle.journal.proofs.Strongest.{FindsStrongest, finds-strongest}
 
 -- all stamps are at most hi; the stamps rise, above lo
 abbrev pub Under : ℕ → List Reading → Type 0
@@ -22,6 +25,16 @@ Under hi (r ∷ rs) = (r .stamp ≤ hi) × Under hi rs
 abbrev pub Rising : ℕ → List Reading → Type 0
 Rising lo [] = Unit {0}
 Rising lo (r ∷ rs) = (lo < r .stamp) × Rising (r .stamp) rs
+
+-- so is each stamp among them
+under-among : (hi : ℕ) (rs : List Reading) (m : Reading) → Under hi rs → List·Memᴰ m rs → m .stamp ≤ hi
+under-among hi [] m u a = absurd (List·Memᴰ·not-nil a)
+under-among hi (r ∷ rs) m u a = ⊎-elim (λ (e : m ≡ r). rw e (u .0)) (λ b. under-among hi rs m (u .1) b) (List·Memᴰ·cases-cons a)
+
+pub rising-among : (lo : ℕ) (rs : List Reading) (m : Reading) → Rising lo rs → List·Memᴰ m rs → lo < m .stamp
+rising-among lo [] m h a = absurd (List·Memᴰ·not-nil a)
+rising-among lo (r ∷ rs) m h a =
+    ⊎-elim (λ (e : m ≡ r). rw e (h .0)) (λ b. omega (arith, rising-among (r .stamp) rs m (h .1) b)) (List·Memᴰ·cases-cons a)
 
 -- ---- `strongest` turns `++` into `join`
 prefer-assoc : (a b c : Reading) → prefer (prefer a b) c ≡ prefer a (prefer b c)
@@ -61,7 +74,7 @@ shown-nil T = refl
 
 shown-one-late : (T : ℕ) (r : Reading) → T < r .stamp → shown T (r ∷ []) ≡ none
 unfolding shown
-shown-one-late T r h = cc (lt-leb (r .stamp) T h)
+shown-one-late T r h = cc (late T r h)
 
 -- a reading stamped above T does not matter
 pub shown-late : (T : ℕ) (rs : List Reading) (r : Reading) → T < r .stamp → shown T (rs ++ (r ∷ [])) ≡ shown T rs
@@ -74,7 +87,7 @@ shown-snoc T rs ss r e = shown-append T rs (r ∷ []) ∙ ap (λ (o : Option Rea
 -- as of the greatest stamp there is, the strongest of all
 asOf-all : (T : ℕ) (rs : List Reading) → Under T rs → asOf T rs ≡ rs
 asOf-all T [] u = refl
-asOf-all T (r ∷ rs) u = cc (asOf-all T rs (u .1), le-leb (r .stamp) T (u .0))
+asOf-all T (r ∷ rs) u = cc (asOf-all T rs (u .1), in-time T r (u .0))
 
 pub shown-all : (T : ℕ) (rs : List Reading) → Under T rs → shown T rs ≡ strongest rs
 unfolding shown
@@ -93,22 +106,22 @@ all-above P lo l [] h = (refl, refl)
 all-above P lo l (r ∷ rs) h =
     let i = all-above P (r .stamp) (omega arith) rs (h .1) in
     let p : P < r .stamp = omega arith in
-    (cc (lt-leb (r .stamp) P p), cc (lt-ltb P (r .stamp) p))
+    (cc (late P r p), cc (lt-ltb P (r .stamp) p))
 
 split : (P lo : ℕ) (rs : List Reading) → Rising lo rs → rs ≡ asOf P rs ++ above P rs
 split P lo [] h = refl
 split P lo (r ∷ rs) h =
-    by-test (leb (r .stamp) P)
-    (λ t. cc (split P (r .stamp) rs (h .1), le-ltb P (r .stamp) (leb-true (r .stamp) P t)))
+    by-test (inTime P r)
+    (λ t. cc (split P (r .stamp) rs (h .1), le-ltb P (r .stamp) (in-time-told P r t)))
     (λ t.
-    let p : P < r .stamp = leb-false (r .stamp) P t in
+    let p : P < r .stamp = late-told P r t in
     let k = all-above P P (omega arith) (r ∷ rs) (p, h .1) in
     cc (k .0, k .1))
 
 under-asOf : (P : ℕ) (rs : List Reading) → Under P (asOf P rs)
 under-asOf P [] = tt
 under-asOf P (r ∷ rs) =
-    by-test (leb (r .stamp) P) (λ t. rw t (leb-true (r .stamp) P t, under-asOf P rs)) (λ t. rw t (under-asOf P rs))
+    by-test (inTime P r) (λ t. rw t (in-time-told P r t, under-asOf P rs)) (λ t. rw t (under-asOf P rs))
 
 rising-less : (lo lo′ : ℕ) → lo ≤ lo′ → (rs : List Reading) → Rising lo′ rs → Rising lo rs
 rising-less lo lo′ l [] h = tt
@@ -118,66 +131,36 @@ rising-asOf : (P lo : ℕ) (rs : List Reading) → Rising lo rs → Rising lo (a
 rising-asOf P lo [] h = tt
 rising-asOf P lo (r ∷ rs) h =
     let i = rising-asOf P (r .stamp) rs (h .1) in
-    by-test (leb (r .stamp) P) (λ t. rw t (h .0, i)) (λ t. rw t (rising-less lo (r .stamp) (omega arith) (asOf P rs) i))
+    by-test (inTime P r) (λ t. rw t (h .0, i)) (λ t. rw t (rising-less lo (r .stamp) (omega arith) (asOf P rs) i))
 
 -- what stays of those above P, and of those up to P
 stays-above : (P : ℕ) (o : Option Reading) (rs : List Reading) → those (stays P o) (above P rs) ≡ above P rs
 stays-above P o [] = refl
 stays-above P o (r ∷ rs) = by-test (ltb P (r .stamp)) (λ t. cc (stays-above P o rs)) (λ t. cc (stays-above P o rs))
 
-none-has : (P t lo : ℕ) (m : Reading) → m .stamp ≤ lo → (rs : List Reading) → Rising lo rs → Under P rs → those (stays P (some m)) rs ≡ []
-none-has P t lo m l [] h u = refl
-none-has P t lo m l (r ∷ rs) h u =
+none-has : (P lo : ℕ) (m : Reading) → m .stamp ≤ lo → (rs : List Reading) → Rising lo rs → Under P rs → those (stays P (some m)) rs ≡ []
+none-has P lo m l [] h u = refl
+none-has P lo m l (r ∷ rs) h u =
     let q : m .stamp < r .stamp = omega arith in
-    cc (none-has P t (r .stamp) m (omega arith) rs (h .1) (u .1), le-ltb P (r .stamp) (u .0), ne-eqb (m .stamp) (r .stamp) (λ e. omega arith))
+    cc (none-has P (r .stamp) m (omega arith) rs (h .1) (u .1), le-ltb P (r .stamp) (u .0), ne-eqb (m .stamp) (r .stamp) (λ e. omega arith))
 
-strongest-above : (lo : ℕ) (rs : List Reading) (m : Reading) → Rising lo rs → strongest rs ≡ some m → lo < m .stamp
-strongest-above lo [] m h e = let z : _≡_ {A = ℕ} 0 1 = cc in omega arith
-strongest-above lo (r ∷ rs) m h e =
-    by-option (strongest rs)
-    (λ n. let q : r .stamp ≡ m .stamp = cc in omega arith)
-    (λ s n.
-    let a : r .stamp < s .stamp = strongest-above (r .stamp) rs s (h .1) n in
-    by-test (weaker r s)
-    (λ t. let q : s .stamp ≡ m .stamp = cc in omega arith)
-    (λ t. let q : r .stamp ≡ m .stamp = cc in omega arith))
-
-is-nil : (rs : List Reading) → strongest rs ≡ none → rs ≡ []
-is-nil [] e = refl
-is-nil (r ∷ rs) e = by-option (strongest rs) (λ n. cc) (λ s n. cc)
-
-one-stays : (P lo : ℕ) (rs : List Reading) (m : Reading) → Rising lo rs → Under P rs → strongest rs ≡ some m → those (stays P (some m)) rs ≡ m ∷ []
-one-stays P lo [] m h u e = cc
-one-stays P lo (r ∷ rs) m h u e =
+-- of rising readings up to P one alone has the stamp of one of them
+one-stays : (P lo : ℕ) (rs : List Reading) (m : Reading) → Rising lo rs → Under P rs → List·Memᴰ m rs → those (stays P (some m)) rs ≡ m ∷ []
+one-stays P lo [] m h u a = absurd (List·Memᴰ·not-nil a)
+one-stays P lo (r ∷ rs) m h u a =
     let d = le-ltb P (r .stamp) (u .0) in
-    by-option (strongest rs)
-    (λ n. let q : r ≡ m = cc in let z = is-nil rs n in cc (d, eq-eqb (m .stamp) (r .stamp) (cc)))
-    (λ s n.
-    let a : r .stamp < s .stamp = strongest-above (r .stamp) rs s (h .1) n in
-    by-test (weaker r s)
-    (λ t.
-    let q : s ≡ m = cc in
-    let g : s .stamp ≡ m .stamp = cc in
-    cc (d, one-stays P (r .stamp) rs m (h .1) (u .1) (cc), ne-eqb (m .stamp) (r .stamp) (λ f. omega arith)))
-    (λ t.
-    let q : r ≡ m = cc in
-    let g : r .stamp ≡ m .stamp = cc in
-    cc (d, none-has P 0 (r .stamp) m (omega arith) rs (h .1) (u .1), eq-eqb (m .stamp) (r .stamp) (omega arith))))
+    ⊎-elim
+    (λ (e : m ≡ r).
+    let q : m .stamp ≡ r .stamp = cc in
+    cc (d, none-has P (r .stamp) m (omega arith) rs (h .1) (u .1), eq-eqb (m .stamp) (r .stamp) q))
+    (λ b.
+    let q : r .stamp < m .stamp = rising-among (r .stamp) rs m (h .1) b in
+    cc (d, one-stays P (r .stamp) rs m (h .1) (u .1) b, ne-eqb (m .stamp) (r .stamp) (λ f. omega arith)))
+    (List·Memᴰ·cases-cons a)
 
 shown-one : (T : ℕ) (r : Reading) → r .stamp ≤ T → shown T (r ∷ []) ≡ some r
 unfolding shown
-shown-one T r h = cc (le-leb (r .stamp) T h)
-
-strongest-under : (P : ℕ) (rs : List Reading) (m : Reading) → Under P rs → strongest rs ≡ some m → m .stamp ≤ P
-strongest-under P [] m u e = let z : _≡_ {A = ℕ} 0 1 = cc in omega arith
-strongest-under P (r ∷ rs) m u e =
-    by-option (strongest rs)
-    (λ n. let q : r .stamp ≡ m .stamp = cc in omega arith)
-    (λ s n.
-    let a : s .stamp ≤ P = strongest-under P rs s (u .1) n in
-    by-test (weaker r s)
-    (λ t. let q : s .stamp ≡ m .stamp = cc in omega arith)
-    (λ t. let q : r .stamp ≡ m .stamp = cc in omega arith))
+shown-one T r h = cc (in-time T r h)
 
 under-more : (hi hi′ : ℕ) → hi ≤ hi′ → (rs : List Reading) → Under hi rs → Under hi′ rs
 under-more hi hi′ h [] u = tt
@@ -186,9 +169,10 @@ under-more hi hi′ h (r ∷ rs) u = (omega arith, under-more hi hi′ h rs (u .
 low-stays : (P T lo : ℕ) → P ≤ T → (rs : List Reading) → Rising lo rs → Under P rs → shown T (those (stays P (strongest rs)) rs) ≡ shown T rs
 low-stays P T lo l rs h u =
     by-option (strongest rs)
-    (λ n. rw (is-nil rs n))
+    (λ n. let z : FindsStrongest rs none = rw n at (finds-strongest rs) in rw z)
     (λ m n.
-    rw (n, one-stays P lo rs m h u n, shown-one T m (omega (arith, strongest-under P rs m u n)), shown-all T rs (under-more P T l rs u))
+    let z : FindsStrongest rs (some m) = rw n at (finds-strongest rs) in
+    rw (n, one-stays P lo rs m h u (z .among), shown-one T m (omega (arith, under-among P rs m u (z .among))), shown-all T rs (under-more P T l rs u))
     (sym n))
 
 pub shown-stays : (P T lo : ℕ) → P ≤ T → (rs : List Reading) → Rising lo rs → shown T (those (stays P (shown P rs)) rs) ≡ shown T rs

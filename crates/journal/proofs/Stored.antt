@@ -1,4 +1,4 @@
--- Entries in a journal: what is written is read again, what is read is written again, one more entry is three numbers placed,
+-- Entries in a journal: what is written is read again, and what stands behind it; what is read is written again; one more entry is three numbers placed;
 -- and the entries from number i on are entry i and those from i + 1 on. Assumes nothing.
 use Prim.Native.Nat.{ℕ, zero, suc, _+_, _*_, _-_, _≤_, _<_}
 use native.Mathlib.Omega.{arith}
@@ -6,11 +6,11 @@ use native.Mathlib.Nat.{add-zero}
 use native.Mathlib.Numerals.{add-one, add-two}
 use mathlib.Core.Path.{_≡_, refl, _∙_, ap}
 use mathlib.Core.List.{List, [], _∷_, _++_, append-assoc}
-use lib.ListN.{length, take, drop, set, take-append-drop, length-append, length-replicate, length-drop}
-use lib.Seq.{drop-drop, getD-drop, sets-eq}
+use lib.ListN.{length, getD, take, drop, set, replicate, take-append-drop, length-append, length-replicate, length-drop, List·getD-append}
+use lib.Seq.{drop-drop, getD-drop, getD-take, getD-append-add, length-take-le, sets-eq}
 use Rattle.lists.specs.Place.{placed}
 use Rattle.journal.specs.Entries.{Entry}
-use Rattle.journal.specs.Stored.{entryAt, entries, numbers, flat, written}
+use Rattle.journal.specs.Stored.{entryAt, entries, numbers, flat, emptiedNumbers, written}
 
 pub entries-flat : (es : List Entry) (j : List ℕ) → entries (length es) (flat es ++ j) ≡ es
 unfolding entries flat
@@ -31,9 +31,50 @@ unfolding entries
 length-entries zero j = refl
 length-entries (suc n) j = ap suc (length-entries n (drop 3 j))
 
+-- emptied entries have three numbers each, all of them 0
+length-emptied : (emptied : ℕ) → length (emptiedNumbers emptied) ≡ 3 * emptied
+length-emptied emptied = simp length-replicate (omega arith)
+
+zero-at : (n i : ℕ) → getD (replicate {A = ℕ} n 0) i 0 ≡ 0
+zero-at zero i = refl
+zero-at (suc n) zero = refl
+zero-at (suc n) (suc i) = zero-at n i
+
 pub length-written : (es : List Entry) (emptied : ℕ) (j : List ℕ) → 3 * (length es + emptied) ≤ length j → length (written es emptied j) ≡ length j
 unfolding written
-length-written es emptied j h = simp (length-append, length-flat, length-replicate, length-drop) (omega arith)
+length-written es emptied j h = simp (length-append, length-flat, length-emptied, length-drop) (omega arith)
+
+-- a list of three parts, the first two of which have n and m numbers: at a place in the second, and at one in the third
+module _ (a z d : List ℕ) (n m place : ℕ) (first : length a ≡ n) (second : length z ≡ m) where
+  second-part : n ≤ place → place < n + m → getD (a ++ (z ++ d)) place 0 ≡ getD z (place - n) 0
+  second-part l h =
+      let e : place ≡ length a + (place - n) = omega arith in
+      ap (λ (k : ℕ). getD (a ++ (z ++ d)) k 0) e ∙ getD-append-add a (z ++ d) (place - n) 0 ∙ List·getD-append z d 0 (place - n) (omega arith)
+
+  third-part : n + m ≤ place → getD (a ++ (z ++ d)) place 0 ≡ getD d (place - (n + m)) 0
+  third-part l =
+      let i = place - (n + m) in
+      let e : place ≡ length a + (length z + i) = omega arith in
+      ap (λ (k : ℕ). getD (a ++ (z ++ d)) k 0) e ∙ getD-append-add a (z ++ d) (length z + i) 0 ∙ getD-append-add z d i 0
+
+-- behind the entries written: zeros, and then the numbers that stay
+module _ (es : List Entry) (emptied : ℕ) (j : List ℕ) (place : ℕ) where
+  abbrev later : List ℕ
+  later = drop (3 * (length es + emptied)) j
+
+  pub emptied-zero : 3 * length es ≤ place → place < 3 * length es + 3 * emptied → getD (written es emptied j) place 0 ≡ 0
+  unfolding written
+  emptied-zero l h =
+      second-part (flat es) (emptiedNumbers emptied) later (3 * length es) (3 * emptied) place (length-flat es) (length-emptied emptied) l h
+      ∙ simp zero-at
+
+  pub later-stay : 3 * length es + 3 * emptied ≤ place → getD (written es emptied j) place 0 ≡ getD j place 0
+  unfolding written
+  later-stay l =
+      let i = place - (3 * length es + 3 * emptied) in
+      third-part (flat es) (emptiedNumbers emptied) later (3 * length es) (3 * emptied) place (length-flat es) (length-emptied emptied) l
+      ∙ getD-drop (3 * (length es + emptied)) j i 0
+      ∙ ap (λ (n : ℕ). getD j n 0) (omega arith)
 
 -- what is read is written again
 pub flat-entries : (n : ℕ) (j : List ℕ) → 3 * n ≤ length j → flat (entries n j) ≡ take (3 * n) j
@@ -56,6 +97,16 @@ unfolding written
 written-same n j h =
     let q : 3 * (n + 0) ≡ 3 * n = omega arith in
     rw (length-entries, q, flat-entries n j h) (take-append-drop (3 * n) j)
+
+-- numbers of entries that were read and are written again stay
+pub front-stays : (n : ℕ) (es : List Entry) (emptied : ℕ) (j : List ℕ) (place : ℕ) → 3 * n ≤ length j → place < 3 * n
+    → getD (written (entries n j ++ es) emptied j) place 0 ≡ getD j place 0
+unfolding written
+front-stays n es emptied j place h l =
+    let front : List ℕ = take (3 * n) j in
+    let size : length front ≡ 3 * n = length-take-le (3 * n) j h in
+    rw (flat-append (entries n j) es, flat-entries n j h, append-assoc front (flat es))
+    (List·getD-append front _ 0 place (omega arith) ∙ getD-take (3 * n) j place 0 l)
 
 -- one more entry is three numbers placed
 pub put-append : (e : Entry) (n : ℕ) (j : List ℕ) → 3 * n + 3 ≤ length j

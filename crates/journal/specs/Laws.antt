@@ -1,15 +1,29 @@
 -- What users of the journal rely on, stated of its definitions; the proofs stand in proofs/Laws.antt. Assumes nothing.
-use Prim.Native.Nat.{ℕ, _≤_, _<_}
+use Prim.Native.Nat.{ℕ, _+_, _*_, _≤_, _<_}
 use mathlib.Core.Path.{_≡_}
-use mathlib.Core.List.{List, List·Memᴰ}
+use mathlib.Core.List.{List, [], List·Memᴰ}
 use mathlib.Core.Option.{Option, none, some}
-use lib.ListN.{length}
+use lib.ListN.{length, getD}
 use Rattle.calendar.specs.Dates.{lastDay}
 use Rattle.journal.specs.Order.{Reading}
-use Rattle.journal.specs.Readings.{shown}
+use Rattle.journal.specs.Readings.{strongest, shown}
 use Rattle.journal.specs.Entries.{Entry, placeOf, pointIn, dayIn, quarterIn, readingsAt, keep}
 use Rattle.journal.specs.Stored.{entries, written}
 use Rattle.journal.specs.Damage.{Right}
+
+-- m is the newest of the readings: one of them, and none of them has a greater stamp
+pub record IsGreatest (rs : List Reading) (m : Reading) : Type 0 where
+  pub among : List·Memᴰ m rs
+  pub greatest : (r : Reading) → List·Memᴰ r rs → r .stamp ≤ m .stamp
+
+-- what is found among readings is the newest of them; nothing is found only where there is none
+abbrev pub FindsGreatest : List Reading → Option Reading → Type 0
+FindsGreatest rs none = rs ≡ []
+FindsGreatest rs (some m) = IsGreatest rs m
+
+-- `strongest` finds it in every list of readings, whatever the order in which they stand
+abbrev pub StrongestIsNewest : Type 0
+StrongestIsNewest = (rs : List Reading) → FindsGreatest rs (strongest rs)
 
 -- m is the newest of the readings as of T: one of them, with a stamp of at most T, and no other of at most T has a greater one
 pub record IsNewest (T : ℕ) (rs : List Reading) (m : Reading) : Type 0 where
@@ -47,3 +61,10 @@ KeepsNoOlder =
 -- what is written is read again
 abbrev pub EntriesReadAgain : Type 0
 EntriesReadAgain = (es : List Entry) (emptied : ℕ) (j : List ℕ) → entries (length es) (written es emptied j) ≡ es
+
+-- behind the entries written stand the emptied ones, whose numbers are 0; every number behind those is as it was
+abbrev pub LaterNumbersStay : Type 0
+LaterNumbersStay =
+    (es : List Entry) (emptied : ℕ) (j : List ℕ) (place : ℕ)
+    → (3 * length es ≤ place → place < 3 * length es + 3 * emptied → getD (written es emptied j) place 0 ≡ 0)
+    × (3 * length es + 3 * emptied ≤ place → getD (written es emptied j) place 0 ≡ getD j place 0)

@@ -23,9 +23,13 @@ abbrev pub strongest : List Reading → Option Reading
 strongest [] = none
 strongest (r ∷ rs) = join (some r) (strongest rs)
 
+-- whether a reading has a stamp of at most T
+abbrev pub inTime : ℕ → Reading → Bool
+inTime T r = leb (r .stamp) T
+
 -- the readings with a stamp of at most T
 abbrev pub asOf : ℕ → List Reading → List Reading
-asOf T rs = those (λ r. leb (r .stamp) T) rs
+asOf T rs = those (inTime T) rs
 
 -- the reading shown as of T: the newest with a stamp of at most T (proofs/Laws.antt shows that it is)
 unfoldable pub shown : ℕ → List Reading → Option Reading

@@ -22,6 +22,10 @@ unfoldable pub flat : List Entry → List ℕ
 flat [] = []
 flat (e ∷ es) = numbers e ++ flat es
 
+-- the numbers of so many emptied entries
+abbrev pub emptiedNumbers : ℕ → List ℕ
+emptiedNumbers emptied = replicate (3 * emptied) 0
+
 -- a journal that begins with these entries and then has so many emptied ones, whose numbers are 0; later numbers stay
 unfoldable pub written : List Entry → ℕ → List ℕ → List ℕ
-written es emptied j = flat es ++ (replicate (3 * emptied) 0 ++ drop (3 * (length es + emptied)) j)
+written es emptied j = flat es ++ (emptiedNumbers emptied ++ drop (3 * (length es + emptied)) j)

@@ -15,7 +15,7 @@ use Rattle.journal.specs.Order.{Reading, weaker}
 use Rattle.journal.specs.Readings.{join, shown, hasStamp}
 use Rattle.journal.specs.Entries.{pointPlaces, Entry, readingOf, readingsAt}
 use Rattle.journal.specs.Damage.{RightFor}
-use Rattle.journal.proofs.ShownLaws.{Rising, shown-append}
+use Rattle.journal.proofs.ShownLaws.{Rising, rising-among, shown-append}
 use Rattle.journal.proofs.Kept.{readings-append}
 use Rattle.journal.proofs.Entries.{right-rising}
 use Rattle.journal.proofs.Back.{shown-last}
@@ -43,11 +43,6 @@ afterPass points lo hi P (e ∷ es) = cond (metAgain points lo hi P e es) (unsta
 rising-parts : (lo : ℕ) (rs : List Reading) (r : Reading) (ss : List Reading) → Rising lo (rs ++ (r ∷ ss)) → Rising lo (rs ++ (r ∷ [])) × Rising (r .stamp) ss
 rising-parts lo [] r ss h = ((h .0, tt), h .1)
 rising-parts lo (x ∷ rs) r ss h = let k = rising-parts (x .stamp) rs r ss (h .1) in ((h .0, k .0), k .1)
-
-rising-among : (lo : ℕ) (rs : List Reading) (m : Reading) → Rising lo rs → List·Memᴰ m rs → lo < m .stamp
-rising-among lo [] m h a = absurd (List·Memᴰ·not-nil a)
-rising-among lo (r ∷ rs) m h a =
-    ⊎-elim (λ (e : m ≡ r). rw e (h .0)) (λ b. omega (arith, rising-among (r .stamp) rs m (h .1) b)) (List·Memᴰ·cases-cons a)
 
 shown-above : (P lo : ℕ) (rs : List Reading) (m : Reading) → Rising lo rs → shown P rs ≡ some m → lo < m .stamp
 shown-above P lo rs m h e = let t : Tells P rs (some m) = rw e at (shown-tells P rs) in rising-among lo rs m h (t .among)

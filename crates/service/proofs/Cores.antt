@@ -94,16 +94,16 @@ module _ (s : Service) (j : List ℕ) (clock : ℕ) (m : Measurement) (looked : 
         let r : repeats last G m ≡ false = sym (k .repeat a) ∙ e in
         omega (arith, admitted last G clock m v .room r, length-entries (s .state .numbers .entries) j)
 
-    pub submits-new : (j′ : List ℕ) → looked .repeat ≡ false
+    pub submits-new : (j′ : List ℕ) (count : ℕ) → looked .repeat ≡ false → count ≡ s .state .numbers .entries + 1
         → j′ ≡ placed (3 * s .state .numbers .entries) (numbers (record { stamp = looked .stamp; place = looked .place; stored = looked .stored })) j
         → Submits s j clock m
         (withState s (record {
           last = looked .stamp;
-          numbers = record { «kept_stamp» = s .state .numbers .«kept_stamp»; «kept_day» = s .state .numbers .«kept_day»; entries = s .state .numbers .entries + 1 };
+          numbers = record { «kept_stamp» = s .state .numbers .«kept_stamp»; «kept_day» = s .state .numbers .«kept_day»; entries = count };
         }))
         (record { verdict = looked .verdict; stamp = looked .stamp }) j′
     unfolding callOn step submitted
-    submits-new j′ e q =
+    submits-new j′ count e one q =
         let r : repeats last G m ≡ false = sym (k .repeat a) ∙ e in
         let t : looked .stamp ≡ nextStamp clock last = k .stamp a ∙ rw r in
         let n = s .state .numbers .entries in
@@ -111,7 +111,7 @@ module _ (s : Service) (j : List ℕ) (clock : ℕ) (m : Measurement) (looked : 
         let grown : length (entries n j ++ (new ∷ [])) ≡ n + 1 = length-append (entries n j) (new ∷ []) ∙ ap (λ (x : ℕ). x + 1) (length-entries n j) in
         let none : n - length (entries n j ++ (new ∷ [])) ≡ 0 = omega (arith, grown) in
         record {
-          service = rw (v, r, t, grown);
+          service = rw (v, r, t, grown, one);
           answers = rw (v, r, a, t);
           journal = rw (v, r, none) (q ∙ rw (t, k .place a, k .stored a) (sym (put-append new n j (new-fits e))));
         }

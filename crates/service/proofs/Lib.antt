@@ -7,4 +7,6 @@ pub mod Begun
 pub mod Own
 pub mod Cores
 pub mod Evaluating
+pub mod Others
+pub mod Cases
 pub mod Returned

@@ -20,7 +20,8 @@ use Rattle.evaluation.proofs.Greatest.{readings-small, evaluation-within, round
 use Rattle.service.specs.declared.Service.{Service}
 use Rattle.group.specs.Group.{Group, rollOf, placeFor, readingsOf, readingsFor}
 use Rattle.service.specs.Call.{Submission, Clear, Evaluation, After}
-use Rattle.group.specs.Refusals.{stampMost, repeats, submissionVerdict, clearVerdict, evaluationVerdict}
+use Rattle.group.specs.Refusals.{repeats, submissionVerdict, clearVerdict, evaluationVerdict}
+use Rattle.group.specs.Stamps.{stampMost}
 use Rattle.service.specs.Calls.{submitted, cleared, evaluated, whenAccepted, step}
 use Rattle.service.specs.Record.{groupOf, callOn}
 use Rattle.group.proofs.Admitted.{admitted, clearing, evaluating}

@@ -1,9 +1,10 @@
--- What users of the service rely on beside demand 3, stated of its definitions; the proofs stand in proofs/Laws.antt, Evaluating.antt and Staying.antt. Assumes nothing.
-use Prim.Native.Nat.{ℕ, _≤_}
+-- What users of the service rely on beside demand 3, stated of its definitions; the proofs stand in proofs/Laws.antt, Evaluating.antt, Others.antt and Staying.antt. Assumes nothing.
+use Prim.Native.Nat.{ℕ, _+_, _*_, _≤_, _<_}
 use mathlib.Core.Path.{_≡_}
 use mathlib.Core.Bool.{true, false}
 use mathlib.Core.List.{List, []}
-use lib.ListN.{length}
+use lib.ListN.{length, getD}
+use Rattle.values.specs.declared.Measurement.{Measurement}
 use Rattle.service.specs.declared.Service.{Service}
 use Rattle.group.specs.Group.{Group}
 use Rattle.service.specs.Call.{Call, Submission, Clear, Evaluation, refused}
@@ -39,6 +40,28 @@ abbrev pub EvaluationAltersNothing : Type 0
 EvaluationAltersNothing =
     (s : Service) (j : List ℕ) (day quarter T : ℕ) (lent : List ℕ)
     → (callOn s j (Evaluation day quarter T lent) .service ≡ s) × (callOn s j (Evaluation day quarter T lent) .journal ≡ j)
+
+-- an accepted submission leaves every number of the journal as it was but the three behind the entries that there were; where the entry count stays, as
+-- after a repeat, it leaves all
+abbrev pub SubmissionLeavesOthers : Type 0
+SubmissionLeavesOthers =
+    (s : Service) (j : List ℕ) (clock : ℕ) (m : Measurement)
+    → let left = callOn s j (Submission clock m) in
+    let count = s .state .numbers .entries in
+    refused (left .seen) ≡ false
+    → ((place : ℕ) → place < 3 * count → getD (left .journal) place 0 ≡ getD j place 0)
+    × ((place : ℕ) → 3 * count + 3 ≤ place → getD (left .journal) place 0 ≡ getD j place 0)
+    × (left .service .state .numbers .entries ≡ count → left .journal ≡ j)
+
+-- an accepted clear leaves every number behind the entries that there were as it was, and 0 from the entries that it kept up to there
+abbrev pub ClearLeavesLater : Type 0
+ClearLeavesLater =
+    (s : Service) (j : List ℕ) (day stamp : ℕ)
+    → let left = callOn s j (Clear day stamp) in
+    let count = s .state .numbers .entries in
+    refused (left .seen) ≡ false
+    → ((place : ℕ) → 3 * count ≤ place → getD (left .journal) place 0 ≡ getD j place 0)
+    × ((place : ℕ) → 3 * left .service .state .numbers .entries ≤ place → place < 3 * count → getD (left .journal) place 0 ≡ 0)
 
 -- where nothing is damaged no call leaves anything damaged: the stamps go on to rise up to the last one, and every entry is right
 abbrev pub StaysUndamaged : Type 0

@@ -40,7 +40,7 @@ same-length-3 c = search needs
 returns-3 : tie.Need-returns-3
 returns-3 c =
     let past = c .before .before .before .before in
-    submits-new _ _ _ _ _ (past .before .before .before .look .ensures) (search) _ (past .if1 .left) (c .before .before .put .ensures)
+    submits-new _ _ _ _ _ (past .before .before .before .look .ensures) (search) _ _ (past .if1 .left) (omega arith) (c .before .before .put .ensures)
 
 pub submit-spec : {M : Type 1} → statement M
 submit-spec =
