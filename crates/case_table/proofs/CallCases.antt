@@ -219,6 +219,9 @@ clears =
     row "an emptied slot is used again" (held list 40 35 0 3 corrected)
     (submit 1 second 50 1 (minus 5) returns 41 ∷ evaluate 50 1 41 gives 2 rounds (200 ∷ 5 ∷ 0 ∷ 0 ∷ 795 ∷ 7 ∷ []) ∷ [])
     (41 ∷ 35 ∷ 0 ∷ 4 ∷ []) (10 ∷ 5000 ∷ 1000 ∷ 30 ∷ 2780900 ∷ 300 ∷ 40 ∷ 2780900 ∷ 200 ∷ 41 ∷ 5556800 ∷ 5 ∷ 7 ∷ 7 ∷ 7 ∷ []) ∷
+    row "a stamp below P" (held list 40 35 10 3 corrected) (clear 10 34 refused 12 ∷ []) (40 ∷ 35 ∷ 10 ∷ 3 ∷ []) corrected ∷
+    row "a stamp below P, and then the same P and K again" (held list 40 35 10 3 corrected) (clear 10 34 refused 12 ∷ clear 10 35 returns 0 ∷ [])
+    (40 ∷ 35 ∷ 10 ∷ 3 ∷ []) corrected ∷
     row "kept day 100, and the refusals' order" (fresh list (replicate 12 0))
     (submit 1 first 99 1 (minus 1) returns 1 ∷ submit 2 first 100 1 (minus 2) returns 2 ∷ submit 3 producer 100 1 (plus 1000) returns 3
     ∷ clear 27759 2 refused 9 ∷ clear 100 2 returns 1
@@ -235,6 +238,15 @@ clears =
     ∷ evaluate 27758 1 5 refused 11 ∷ [])
     (5 ∷ 4 ∷ 27758 ∷ 1 ∷ []) (5 ∷ 5551700 ∷ 1 ∷ 0 ∷ 0 ∷ 0 ∷ 0 ∷ 0 ∷ 0 ∷ []) ∷ []
 
+-- a row of a consumer with a status above 0 and readings in earlier weeks: without one of its own it takes nothing, with one it takes that
+abbrev statusRow : String → (status : ℕ) → Row
+statusRow shows status =
+    row shows (fresh (group 0 1 status 6000) (replicate 12 0))
+    (submit 1 producer 28 1 (plus 1000) returns 1 ∷ submit 2 first 21 1 (minus 1) returns 2 ∷ submit 3 first 14 1 (minus 2) returns 3
+    ∷ evaluate 28 1 3 gives 2 rounds (0 ∷ 0 ∷ 0 ∷ 0 ∷ 1000 ∷ 7 ∷ []) ∷ submit 4 first 28 1 (minus 5) returns 4
+    ∷ evaluate 28 1 4 gives 2 rounds (5 ∷ 0 ∷ 0 ∷ 0 ∷ 995 ∷ 7 ∷ []) ∷ [])
+    (4 ∷ 0 ∷ 0 ∷ 4 ∷ []) (1 ∷ 2800 ∷ 1000 ∷ 2 ∷ 2778000 ∷ 1 ∷ 3 ∷ 2777300 ∷ 2 ∷ 4 ∷ 2778700 ∷ 5 ∷ [])
+
 -- evaluations: substitutes, and the list lent
 unfoldable evaluations : List Row
 evaluations =
@@ -243,11 +255,14 @@ evaluations =
     ∷ evaluate 28 1 1 gives 2 rounds (0 ∷ 0 ∷ 0 ∷ 0 ∷ 1000 ∷ 7 ∷ []) ∷ evaluate 28 1 2 gives 2 rounds (1 ∷ 0 ∷ 0 ∷ 0 ∷ 999 ∷ 7 ∷ [])
     ∷ evaluate 28 1 3 gives 2 rounds (2 ∷ 0 ∷ 0 ∷ 0 ∷ 998 ∷ 7 ∷ []) ∷ [])
     (3 ∷ 0 ∷ 0 ∷ 3 ∷ []) (1 ∷ 2800 ∷ 1000 ∷ 2 ∷ 2778000 ∷ 1 ∷ 3 ∷ 2777300 ∷ 2 ∷ []) ∷
-    row "status 1 without and with a reading" (fresh (group 0 1 1 6000) (replicate 12 0))
-    (submit 1 producer 28 1 (plus 1000) returns 1 ∷ submit 2 first 21 1 (minus 1) returns 2 ∷ submit 3 first 14 1 (minus 2) returns 3
-    ∷ evaluate 28 1 3 gives 2 rounds (0 ∷ 0 ∷ 0 ∷ 0 ∷ 1000 ∷ 7 ∷ []) ∷ submit 4 first 28 1 (minus 5) returns 4
-    ∷ evaluate 28 1 4 gives 2 rounds (5 ∷ 0 ∷ 0 ∷ 0 ∷ 995 ∷ 7 ∷ []) ∷ [])
-    (4 ∷ 0 ∷ 0 ∷ 4 ∷ []) (1 ∷ 2800 ∷ 1000 ∷ 2 ∷ 2778000 ∷ 1 ∷ 3 ∷ 2777300 ∷ 2 ∷ 4 ∷ 2778700 ∷ 5 ∷ []) ∷
+    row "7, 14, 21 and 28 days before, each alone" (fresh list (replicate 12 0))
+    (submit 1 producer 21 1 (plus 11) returns 1 ∷ submit 2 producer 14 2 (plus 22) returns 2 ∷ submit 3 producer 7 3 (plus 33) returns 3
+    ∷ submit 4 producer 0 4 (plus 44) returns 4
+    ∷ evaluate 28 1 4 gives 2 rounds (0 ∷ 0 ∷ 0 ∷ 0 ∷ 11 ∷ 7 ∷ []) ∷ evaluate 28 2 4 gives 2 rounds (0 ∷ 0 ∷ 0 ∷ 0 ∷ 22 ∷ 7 ∷ [])
+    ∷ evaluate 28 3 4 gives 2 rounds (0 ∷ 0 ∷ 0 ∷ 0 ∷ 33 ∷ 7 ∷ []) ∷ evaluate 28 4 4 gives 2 rounds (0 ∷ 0 ∷ 0 ∷ 0 ∷ 44 ∷ 7 ∷ [])
+    ∷ evaluate 28 5 4 gives 2 rounds (0 ∷ 0 ∷ 0 ∷ 0 ∷ 0 ∷ 7 ∷ []) ∷ [])
+    (4 ∷ 0 ∷ 0 ∷ 4 ∷ []) (1 ∷ 2100 ∷ 11 ∷ 2 ∷ 1401 ∷ 22 ∷ 3 ∷ 702 ∷ 33 ∷ 4 ∷ 3 ∷ 44 ∷ []) ∷
+    statusRow "status 1" 1 ∷ statusRow "status 2" 2 ∷ statusRow "status 3" 3 ∷
     row "28 days before but not 1, not 35, and no other quarter" (fresh list (replicate 12 0))
     (submit 1 producer 28 2 (plus 1000) returns 1 ∷ submit 2 first 27 2 (minus 5) returns 2 ∷ submit 3 first 28 1 (minus 5) returns 3
     ∷ submit 4 first 0 2 (minus 9) returns 4
@@ -283,10 +298,13 @@ damages =
     damagedRow "stamp 0" (held list 5 3 10 1 (0 ∷ 1000 ∷ 100 ∷ [])) ∷
     damagedRow "a stamp above the last" (held list 5 3 10 1 (6 ∷ 1000 ∷ 100 ∷ [])) ∷
     damagedRow "point 3" (held list 5 3 10 1 (4 ∷ 8328700 ∷ 100 ∷ [])) ∷
+    damagedRow "day 27759 of the last point, which is day 0 of a point that there is not" (held list 5 3 0 1 (4 ∷ 8327700 ∷ 100 ∷ [])) ∷
     damagedRow "a day below K" (held list 5 3 11 1 (4 ∷ 1000 ∷ 100 ∷ [])) ∷
+    damagedRow "quarter 97 of day 1" (held list 5 3 0 1 (4 ∷ 196 ∷ 100 ∷ [])) ∷
     damagedRow "quarter 100 of day 1" (held list 5 3 0 1 (4 ∷ 199 ∷ 100 ∷ [])) ∷
     damagedRow "quarter 93 of day 90" (held list 5 3 10 1 (4 ∷ 9092 ∷ 100 ∷ [])) ∷
-    damagedRow "magnitude 100000000" (held list 5 3 10 1 (4 ∷ 1000 ∷ 100000000 ∷ [])) ∷ []
+    damagedRow "magnitude 100000000" (held list 5 3 10 1 (4 ∷ 1000 ∷ 100000000 ∷ [])) ∷
+    damagedRow "magnitude 100000000 of the second entry" (held list 5 3 10 2 (4 ∷ 1000 ∷ 100 ∷ 5 ∷ 2776900 ∷ 100000000 ∷ [])) ∷ []
 
 -- what is seen of a call is what its line says
 abbrev agrees : Line → Seen → Bool

@@ -183,6 +183,34 @@ codeRows =
     ("A   2            0" ∷ [])
     ∷ []
 
+-- ---- the line that ends the registration
+
+-- an event of either letter ends the registration, and a D line after it is malformed; the clear makes day 1 the kept day, so that a reading of day 0 is
+-- refused, and the evaluation finds no readings
+abbrev pub firstEventRows : List Row
+firstEventRows =
+    row "C is the first event"
+    (listGroup ++
+    ("C 20240102            0" ∷
+    "M         1000 859182400220162071 20240101   1      1001" ∷
+    "D 859182400220162071 0" ∷ []))
+    ("A   0            0" ∷
+    "A  11            0" ∷
+    "A   1            0" ∷ [])
+    ∷
+    row "E is the first event"
+    (listGroup ++
+    ("E 20240102   1            0" ∷
+    "D 859182400220162071 0" ∷ []))
+    ("R   0 2" ∷
+    "S   1   1         0" ∷
+    "S   2   1         0" ∷
+    "U   1         0" ∷
+    "U   2         0" ∷
+    "V   1         0" ∷
+    "A   1            0" ∷ [])
+    ∷ []
+
 -- ---- days 90 and 300
 
 -- day 90 is 20240331, day 300 is 20241027
@@ -205,15 +233,20 @@ dayRows =
 
 -- ---- 50 and 51 points
 
--- the first 45 producers
-abbrev pub producers : List String
-producers =
+-- the first five producers
+abbrev pub fiveProducers : List String
+fiveProducers =
     "D 859182400220100004 0" ∷
     "D 859182400220100011 0" ∷
     "D 859182400220100028 0" ∷
     "D 859182400220100035 0" ∷
-    "D 859182400220100042 0" ∷
-    "D 859182400220100059 0" ∷
+    "D 859182400220100042 0" ∷ []
+
+-- the first 45 producers
+abbrev pub producers : List String
+producers =
+    fiveProducers ++
+    ("D 859182400220100059 0" ∷
     "D 859182400220100066 0" ∷
     "D 859182400220100073 0" ∷
     "D 859182400220100080 0" ∷
@@ -252,7 +285,7 @@ producers =
     "D 859182400220100417 0" ∷
     "D 859182400220100424 0" ∷
     "D 859182400220100431 0" ∷
-    "D 859182400220100448 0" ∷ []
+    "D 859182400220100448 0" ∷ [])
 
 -- five consumers, which all name the first producer
 abbrev pub consumers : List String
@@ -357,6 +390,86 @@ sizeRows =
     "U   4         0" ∷
     "U   5         0" ∷
     "V   1       600" ∷ []) ++ remaining ++ ("V  46         0" ∷ []))
+    ∷ []
+
+-- ---- limits of the registration
+
+-- the producers after the first 45, up to the 62nd
+abbrev pub moreProducers : List String
+moreProducers =
+    "D 859182400220100455 0" ∷
+    "D 859182400220100462 0" ∷
+    "D 859182400220100479 0" ∷
+    "D 859182400220100486 0" ∷
+    "D 859182400220100493 0" ∷
+    "D 859182400220100509 0" ∷
+    "D 859182400220100516 0" ∷
+    "D 859182400220100523 0" ∷
+    "D 859182400220100530 0" ∷
+    "D 859182400220100547 0" ∷
+    "D 859182400220100554 0" ∷
+    "D 859182400220100561 0" ∷
+    "D 859182400220100578 0" ∷
+    "D 859182400220100585 0" ∷
+    "D 859182400220100592 0" ∷
+    "D 859182400220100608 0" ∷
+    "D 859182400220100615 0" ∷ []
+
+-- the five producers' readings, and their consumer's
+abbrev pub fiveReadings : List String
+fiveReadings =
+    "M         1000 859182400220100004 20240102   1       101" ∷
+    "M         1000 859182400220100011 20240102   1       205" ∷
+    "M         1000 859182400220100028 20240102   1       309" ∷
+    "M         1000 859182400220100035 20240102   1       400" ∷
+    "M         1000 859182400220100042 20240102   1         7" ∷
+    "M         1000 859182400220200001 20240102   1      -150" ∷ []
+
+-- the consumer takes 30.9 of the third producer's supply and 50.5 of the first's, rounded down, then 7 and 41, and 22 of 133 are the rest of its
+-- withdrawal; 62 producers and two consumers are 64 points, and without events nothing is printed
+abbrev pub limitRows : List Row
+limitRows =
+    row "five producers named, in falling priority"
+    (("G   5   1 1" ∷ []) ++ fiveProducers ++
+    ("O 859182400220200001 0 5   3  1000   1  5000   5 10000   2  2000   4  3333" ∷ []) ++ fiveReadings ++
+    ("E 20240102   1         1005" ∷ []))
+    ("A   0         1000" ∷
+    "A   0         1001" ∷
+    "A   0         1002" ∷
+    "A   0         1003" ∷
+    "A   0         1004" ∷
+    "A   0         1005" ∷
+    "R   0 1" ∷
+    "S   1   3        30" ∷
+    "S   1   1        50" ∷
+    "S   1   5         7" ∷
+    "S   1   2        41" ∷
+    "S   1   4        22" ∷
+    "U   1         0" ∷
+    "V   1        51" ∷
+    "V   2       164" ∷
+    "V   3       279" ∷
+    "V   4       378" ∷
+    "V   5         0" ∷ [])
+    ∷
+    row "six producers named: refused"
+    (("G   6   1 1" ∷ []) ++ fiveProducers ++
+    ("D 859182400220100059 0" ∷
+    "O 859182400220200001 0 6   3  1000   1  5000   5 10000   2  2000   4  3333   6  1000" ∷ []))
+    ("A   3            0" ∷ [])
+    ∷
+    row "64 points: accepted"
+    (("G  62   2 1" ∷ []) ++ producers ++ moreProducers ++
+    ("O 859182400220200001 0 1   1  2000" ∷
+    "O 859182400220200018 0 1  62  2000" ∷ []))
+    []
+    ∷
+    row "65 points: refused"
+    (("G  62   3 1" ∷ []) ++ producers ++ moreProducers ++
+    ("O 859182400220200001 0 1   1  2000" ∷
+    "O 859182400220200018 0 1  62  2000" ∷
+    "O 859182400220200025 0 1   1  2000" ∷ []))
+    ("A   3            0" ∷ [])
     ∷ []
 
 -- ---- means
@@ -515,7 +628,7 @@ refusedEventRows =
 
 -- all rows
 abbrev pub rows : List Row
-rows = listRows ++ exampleRows ++ codeRows ++ dayRows ++ sizeRows ++ meanRows ++ clearRows ++ refusedGroupRows ++ refusedEventRows
+rows = listRows ++ exampleRows ++ codeRows ++ firstEventRows ++ dayRows ++ sizeRows ++ limitRows ++ meanRows ++ clearRows ++ refusedGroupRows ++ refusedEventRows
 
 -- what program `share` writes for a row's input
 abbrev pub writes : Row → List ℕ

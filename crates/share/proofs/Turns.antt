@@ -1,4 +1,4 @@
--- The program's loop over the lines: it begins with nothing written, each turn writes the answer to one line, and at the end all is written. Assumes nothing.
+-- The program's loop over the lines: it begins with no bytes computed, each turn computes the answer to one line, and at the end all are computed. Assumes nothing.
 use Prim.Native.Nat.{ℕ, suc, _+_, _-_, _≤_, _<_}
 use mathlib.Core.Path.{_≡_, refl, sym, ap, _∙_}
 use mathlib.Core.List.{List, [], _++_, append-assoc, append-nil}
@@ -20,14 +20,14 @@ use Rattle.event_text.specs.Contracts.{answerMost, openedIf, openedOf, lineEnd,
 use Rattle.event_text.proofs.Cutting.{lines-none}
 use Rattle.event_text.proofs.Walking.{line-ends}
 use Rattle.event_text.proofs.Laws.{answered-by-lines, shared-from-events}
-use Rattle.share.specs.Written.{Written}
+use Rattle.share.proofs.Written.{Written}
 
 -- the opening's verdict is that of the input
 verdict-opened : (verdict : Verdict) (input : List ℕ) → openedIf verdict input .verdict ≡ verdict
 verdict-opened Accepted input = refl
 verdict-opened (Refused refusal) input = refl
 
--- at first nothing is written
+-- at first no bytes are computed
 pub nothing-written : (input : List ℕ) (opened : Opened) → opened ≡ openedOf input → opened .verdict ≡ Accepted
     → Written input (opened .service) (replicate 3000 0) (opened .events)
 nothing-written input opened e accepted =
@@ -48,7 +48,7 @@ front : (bytes buffer : List ℕ) → take (length bytes) (placed 0 bytes buffer
 unfolding placed
 front bytes buffer = take-append-seam bytes (drop (0 + length bytes) buffer)
 
--- a turn hands the front of the buffer on, and goes on with record and journal as the answer left them
+-- a turn adds the front of the buffer, and goes on with record and journal as the answer left them
 pub one-more : (input : List ℕ) (s : Service) (j : List ℕ) (at : ℕ) → Written input s j at → at < length input → (end : ℕ) → end ≡ lineEnd input at
     → (buffer : List ℕ) → answerMost ≤ length buffer → (answered : Answered) (j′ buffer′ : List ℕ)
     → Answers s j (take (end - at) (drop at input)) buffer answered j′ buffer′ → Written input (withState s (answered .state)) j′ end
@@ -56,14 +56,14 @@ unfolding roomVerdict refuse_if_else_
 one-more input s j at w h end e buffer long answered j′ buffer′ p =
     let line = take (end - at) (drop at input) in
     let q = rw (le-ltb (length buffer) answerMost long) at p in
-    let handed : take (answered .bytes) buffer′ ≡ replyTo s j line .bytes = rw (q .bytes, q .out) (front (replyTo s j line .bytes) buffer) in
+    let added : take (answered .bytes) buffer′ ≡ replyTo s j line .bytes = rw (q .bytes, q .out) (front (replyTo s j line .bytes) buffer) in
     record {
       bytes = w .bytes ++ take (answered .bytes) buffer′;
       whole =
-          rw (handed, q .service, q .journal, append-assoc, ← line-then input s j at end h e) (w .whole);
+          rw (added, q .service, q .journal, append-assoc, ← line-then input s j at end h e) (w .whole);
     }
 
--- at the end of the input all is written
+-- at the end of the input the bytes computed are all that `share` gives
 pub all-written : (input : List ℕ) (s : Service) (j : List ℕ) (at : ℕ) (w : Written input s j at) → length input ≤ at → w .bytes ≡ share input
 unfolding answersTo
 all-written input s j at w h =

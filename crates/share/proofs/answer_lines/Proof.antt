@@ -1,5 +1,5 @@
--- `share::answer_lines` is safe and ends, since each line ends after the place where it begins. Between two turns the bytes handed to standard output and
--- the answers still to come are what `share` writes for the input: `Written` in the loop's invariant. Assumes nothing of its own.
+-- `share::answer_lines` is safe and ends, since each line ends after the place where it begins. Between two turns the bytes computed so far and the answers
+-- still to come make up what `share` gives for the input: `Written` in the loop's invariant. Assumes nothing of its own.
 use Prim.Native.Nat.{ℕ, _-_}
 use mathlib.Core.Path.{_≡_, sym}
 use native.Mathlib.Omega.{arith}
@@ -7,7 +7,7 @@ use borrow.Author.Needs.{needs}
 use lib.ListN.{length, length-replicate}
 use lib.Seq.{length-take-le}
 use Rattle.event_text.specs.Contracts.{answerMost}
-use Rattle.share.specs.Written.{Written}
+use Rattle.share.proofs.Written.{Written}
 use Rattle.share.proofs.Turns.{nothing-written, one-more}
 use Rattle.share.proofs.answer_lines.Statement.{statement}
 use Rattle.share.proofs.answer_lines.Tie as tie
