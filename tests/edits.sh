@@ -20,7 +20,8 @@ FROM_ANOTHER = "was not admitted (it has holes or undetermined implicits, or was
 def functions(crate):
     """The functions of a crate's code: file, line, whether public, and the folder of its proofs, which is its path."""
     for file in sorted((crate / "src").rglob("*.rt")):
-        module = [] if file.stem in ("lib", "main") else [file.stem]
+        place = file.relative_to(crate)
+        module = [part for part in place.with_suffix("").parts[1:] if part not in ("lib", "main")]
         inside = []
         for number, line in enumerate(file.read_text().splitlines(), 1):
             if found := re.match(r"impl (?:\w+ for )?(\w+)", line):
@@ -28,7 +29,7 @@ def functions(crate):
             elif line == "}":
                 inside = []
             elif found := HEAD.match(line):
-                yield f"src/{file.name}", number, bool(found[1]), "/".join(module + inside + [found[2]])
+                yield str(place), number, bool(found[1]), "/".join(module + inside + [found[2]])
 
 
 def own(tried):
