@@ -214,7 +214,7 @@ fn evaluation(random: &mut Random, service: &Service, slots: &Slots) -> Event {
 /// The first of the slots' days evaluated at the quarter of the journal's last entry, as of the last stamp.
 fn evaluation_at_once(kept: &Kept, slots: &Slots) -> Option<Event> {
     let State { entries, last, .. } = kept.service.state;
-    let entry = kept.journal.chunks_exact(3).take(entries).last()?;
+    let entry = kept.journal.chunks_exact(3).take(entries).next_back()?;
     Some(Event::Evaluation {
         day: slots.days[0],
         quarter: entry[1] % 100 + 1,
