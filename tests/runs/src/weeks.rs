@@ -36,3 +36,48 @@ pub fn alone(kept: &Kept, day: u64, quarter: u64, until: u64) -> [u64; 4] {
     }
     counts
 }
+
+#[cfg(test)]
+mod tests {
+    use super::*;
+    use crate::groups;
+    use crate::random::Random;
+    use crate::sides::Event;
+    use second::service::Service;
+
+    /// Submits a reading of the first point, a producer, at quarter 5 of a day.
+    fn submit(kept: &mut Kept, day: u64) {
+        let event = Event::Submission {
+            clock: 0,
+            code: kept.service.registration.codes[0],
+            day,
+            quarter: 5,
+            value: 7,
+        };
+        assert_eq!(kept.make(event, &mut []).0, 0);
+    }
+
+    #[test]
+    fn a_week_alone_is_counted() {
+        for week in 1..=4 {
+            let mut registration = groups::registration(&mut Random::new(week));
+            registration.statuses = [0; 64];
+            let mut kept = Kept {
+                service: Service::fresh(&registration).expect("a registration that keeps every rule"),
+                journal: vec![0; 9],
+            };
+            submit(&mut kept, 100 - 7 * week);
+            let mut once = [0; 4];
+            once[week as usize - 1] = 1;
+            assert_eq!(alone(&kept, 100, 5, 1), once);
+            // Not as of an earlier stamp, nor at another quarter, nor where another week or the day itself has one.
+            assert_eq!(alone(&kept, 100, 5, 0), [0; 4]);
+            assert_eq!(alone(&kept, 100, 6, 1), [0; 4]);
+            let mut two = kept.clone();
+            submit(&mut two, 100 - 7 * (5 - week));
+            assert_eq!(alone(&two, 100, 5, 2), [0; 4]);
+            submit(&mut kept, 100);
+            assert_eq!(alone(&kept, 100, 5, 2), [0; 4]);
+        }
+    }
+}
