@@ -1,6 +1,7 @@
 #!/usr/bin/env bash
 # Runs program `share` on a file or on standard input:  bash share.sh FILE   or   bash share.sh <FILE
-# It is proved and built first, where that has not been done yet, which takes some minutes; if that fails, standard error says why.
+# Where the program is not built yet, or a file that it stands on is newer, it is proved and built first, which may take some minutes: standard error
+# names each crate that is proved, and says why if that fails. A run that comes upon another one's build waits for it. Standard output is the program's alone.
 set -u
 if [ $# -gt 1 ]; then
     echo "usage: bash share.sh [FILE]" >&2
@@ -10,20 +11,71 @@ if [ $# -eq 1 ] && { [ -d "$1" ] || [ ! -r "$1" ]; }; then
     echo "share.sh: there is no file $1 that can be read" >&2
     exit 2
 fi
-if ! command -v rt >/dev/null 2>&1; then
-    echo "share.sh: the Rattle kit is not installed: there is no command rt on the path" >&2
+home=$(cd "$(dirname "$0")" && pwd)
+program=$home/target/bin/share
+note=$home/target/stamp/share
+
+# The folders of the crates that the program stands on, its own among them, by crates.txt.
+folders() {
+    awk -F: -v home="$home" '
+        /^[^#]/ { below[$1] = $2 }
+        END {
+            reached["share"]
+            do {
+                more = 0
+                for (name in reached) {
+                    count = split(below[name], names, " ")
+                    for (i = 1; i <= count; i++) if (names[i] in below && !(names[i] in reached)) { reached[names[i]]; more = 1 }
+                }
+            } while (more)
+            for (name in reached) print home "/crates/" name
+        }' "$home/crates.txt"
+}
+
+# Whether the program is there, rt has noted it as proved, and nothing that it stands on is newer.
+stands() {
+    local on
+    mapfile -t on < <(folders)
+    [ -x "$program" ] && [ -e "$note" ] && [ -z "$(find "$home/crates.txt" "${on[@]}" -newer "$program" -print -quit 2>&1)" ]
+}
+
+# Proves and builds the program. It gets the time at which this began, so that a file altered meanwhile is newer.
+build() {
+    if ! command -v rt >/dev/null 2>&1; then
+        echo "share.sh: the Rattle kit is not installed: there is no command rt on the path" >&2
+        exit 2
+    fi
+    folder=$(mktemp -d)
+    trap 'rm -rf "$folder"' EXIT
+    touch "$folder/began"
+    if [ ! -x "$program" ]; then
+        echo "share.sh: the program is proved and built first, in some minutes" >&2
+        # Where the note stands, rt builds no program.
+        rm -f "$note"
+    fi
+    (cd "$home" && rt check share) </dev/null 2>&1 | tee "$folder/log" | sed -unE 's/^rt: ([a-z0-9_]+ proved \([0-9]+ s\))$/share.sh: \1/p' >&2
+    if [ "${PIPESTATUS[0]}" -ne 0 ]; then
+        cat "$folder/log" >&2
+        exit 1
+    fi
+    touch -r "$folder/began" "$program"
+}
+
+# One run at a time looks and builds: it holds the lock of the project's folder.
+if ! command -v flock >/dev/null 2>&1; then
+    echo "share.sh: there is no command flock on the path, by which runs wait for each other" >&2
     exit 2
 fi
-home=$(cd "$(dirname "$0")" && pwd)
-log=$(mktemp)
-trap 'rm -f "$log"' EXIT
-[ -x "$home/target/bin/share" ] || echo "share.sh: the program is proved and built first, in some minutes" >&2
-if ! (cd "$home" && rt check share) </dev/null >"$log" 2>&1; then
-    cat "$log" >&2
-    exit 1
+exec 9<"$home"
+if ! flock -w 1 9; then
+    echo "share.sh: another run is building the program: this one waits for it" >&2
+    flock 9
 fi
+stands || build
+exec 9<&-
+
 if [ $# -eq 1 ]; then
-    "$home/target/bin/share" <"$1"
+    "$program" <"$1"
 else
-    "$home/target/bin/share"
+    "$program"
 fi

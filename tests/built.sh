@@ -1,5 +1,5 @@
 #!/usr/bin/env bash
-# Proves and builds program `share` and the static library, where one is not there yet or a crate has changed since.
+# Proves and builds program `share`, by share.sh, and the static library, where one is not there yet or a crate has changed since.
 set -u
 cd "$(dirname "$0")/.." || exit 1
 
@@ -8,5 +8,5 @@ stands() {
     [ -e "$1" ] && [ -z "$(find crates crates.txt \( -name '*.rt' -o -name '*.antt' -o -name crates.txt \) -newer "$1" -print -quit)" ]
 }
 
-stands target/bin/share || rt check share || exit 1
+bash share.sh tests/share/list.in >/dev/null || exit 1
 stands target/staticlib/libshare_c.a || rt staticlib share_c || exit 1

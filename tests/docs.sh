@@ -1,12 +1,18 @@
 #!/usr/bin/env bash
 # Every path, definition, contract, law and must-fail edit that the documents name is there.
 # A path is a word in backquotes that begins with crates/, docs/, tests/, tools/ or .ci/. A word in backquotes behind a path and a colon,
-# as in `crates/calendar/specs/Dates.antt`: `dayOf`, has to stand in that file. The example of README.md is the input and the output
-# of a run in tests/share.
+# as in `crates/calendar/specs/Dates.antt`: `dayOf`, has to stand in that file as a whole word. The example of README.md is the input and
+# the output of a run in tests/share. The table of refusals is the same wherever it stands: in numbers and names, and in meanings where a user reads them.
 set -u
 cd "$(dirname "$0")/.." || exit 1
 bad=0
 checked=0
+
+# Whether a name stands in a file as a whole word: beside it are only characters that no name has.
+has_word() {
+    LC_ALL=C tr -cs "A-Za-z0-9_'\200-\377-" '\n' <"$2" 2>/dev/null | grep -xF -- "$1" >/dev/null
+}
+
 for page in README.md docs/*.md; do
     while read -r path; do
         checked=$((checked + 1))
@@ -18,7 +24,7 @@ for page in README.md docs/*.md; do
     while IFS=$'\t' read -r path names; do
         for name in $names; do
             checked=$((checked + 1))
-            if ! grep -qF -- "$name" "$path" 2>/dev/null; then
+            if ! has_word "$name" "$path"; then
                 echo "$page names $name in $path, which does not have it"
                 bad=1
             fi
@@ -32,5 +38,46 @@ for example in tests/share/list.in tests/share/list.out; do
         bad=1
     fi
 done
+
+# What a text says of the refusals, by the lines that a substitution gives, with names in one way of writing: NotInColumns becomes NOT_IN_COLUMNS.
+rows() {
+    sed -nE "$1" | sed -E 's/([a-z])([A-Z])/\1_\2/g; s/^([^:]*)/\U\1/'
+}
+
+# Holds what a place says of the refusals to what it has to say.
+agrees() {
+    checked=$((checked + 1))
+    if [ -z "$3" ] || [ "$2" != "$3" ]; then
+        echo "the table of refusals in $1 is not what it has to be (<):"
+        diff <(echo "$3") <(echo "$2")
+        bad=1
+    fi
+}
+
+numbers=crates/answers/specs/Numbers.antt
+code=crates/answers/src/lib.rt
+header=crates/share_c/share.h
+wrapper=crates/share_c/rust/src/refusal.rs
+second=tests/second/src/refusal.rs
+
+table=$(rows 's/^numberOf ([A-Za-z]+) = ([0-9]+)$/\2 \1/p' <$numbers)
+agrees "$numbers, by number" "$(cut -d ' ' -f 1 <<<"$table")" "$(seq 16)"
+agrees $code "$(rows 's/^ *Refusal::([A-Za-z]+) => ([0-9]+),$/\2 \1/p' <$code)" "$table"
+agrees README.md "$(rows 's/^\| ([0-9]+) \| `([A-Za-z]+)` \| .*/\1 \2/p' <README.md)" "$table"
+agrees $header "$(rows 's/^ *SHARE_([A-Z_]+) = ([1-9][0-9]*),? .*/\2 \1/p' <$header)" "$table"
+agrees $wrapper "$(rows 's/^ *([A-Za-z]+) = ([0-9]+),$/\2 \1/p' <$wrapper)" "$table"
+agrees $second "$(rows 's/^pub const ([A-Z_]+): u64 = ([0-9]+);$/\2 \1/p' <$second)" "$table"
+
+# The lists that have no numbers have the table's order.
+names=$(cut -d ' ' -f 2 <<<"$table")
+agrees "$code, in its enum" "$(rows '/^pub enum Refusal/,/^}/s/^ *([A-Za-z]+),$/\1/p' <$code)" "$names"
+agrees "$wrapper, in its list" "$(rows 's/^ *Refusal::([A-Za-z]+),$/\1/p' <$wrapper)" "$names"
+
+# Each meaning is what README.md has; those of the second implementation are its own.
+meanings=$(rows 's/^\| [0-9]+ \| `([A-Za-z]+)` \| (.*) \|$/\1: \2/p' <README.md)
+agrees "$header, by meaning" "$(rows 's/^ *SHARE_([A-Z_]+) = [1-9][0-9]*,? +\/\* (.*) \*\/$/\1: \2/p' <$header)" "$meanings"
+texts=$(tr '\n' ' ' <$wrapper | grep -oE 'Refusal::[A-Za-z]+ => [{ ]*"[^"]*"')
+agrees "$wrapper, by meaning" "$(rows 's/^Refusal::([A-Za-z]+) => [{ ]*"(.*)"$/\1: \2/p' <<<"$texts")" "$meanings"
+
 echo "docs.sh: $checked references looked up"
 [ "$checked" -gt 0 ] && [ "$bad" -eq 0 ]

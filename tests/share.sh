@@ -1,9 +1,9 @@
 #!/usr/bin/env bash
 # Program `share` on inputs of its own, each with the output that the paper gives for it: tests/share/NAME.in and NAME.out, and inputs at the
-# limit of 32768 bytes, which are made here. Where the program is not built yet it is proved and built first. The last line counts them.
+# limit of 32768 bytes, which are made here. Where the program is not built yet share.sh proves and builds it first. The last line counts them.
 set -u
 cd "$(dirname "$0")/.." || exit 1
-[ -x target/bin/share ] || rt check share || exit 1
+bash share.sh tests/share/list.in >/dev/null || exit 1
 
 folder=$(mktemp -d)
 trap 'rm -rf "$folder"' EXIT

@@ -32,18 +32,18 @@ extern "C" {
  */
 enum {
     SHARE_ACCEPTED = 0,
-    SHARE_NOT_IN_COLUMNS = 1,             /* a line of the text is not in its columns, is missing, or is one too many */
+    SHARE_NOT_IN_COLUMNS = 1,             /* a line is not in its columns, is missing, or is one too many */
     SHARE_CODE_FALSE = 2,                 /* a code has not 18 digits, begins with 0, or has a false check digit */
-    SHARE_COUNT_OUTSIDE = 3,              /* no producer, no consumer, more than 64 points, or a consumer that names 0 or over 5 producers */
+    SHARE_COUNT_OUTSIDE = 3,              /* no producer, no consumer, more than 64 points, or a consumer that names none or more than 5 producers */
     SHARE_CODE_TWICE = 4,                 /* a code stands twice in the group */
     SHARE_STATUS_OR_ITERATION_ABOVE = 5,  /* a status above 3 or an iteration above 1 */
     SHARE_PRODUCER_OR_KEY_WRONG = 6,      /* a producer's number is unknown or twice on one line, or a key is outside 1 to 10000 */
     SHARE_KEYS_ABOVE = 7,                 /* a producer's keys sum to more than 10000 */
     SHARE_CODE_NOT_IN_GROUP = 8,          /* the code is not one of the group's */
     SHARE_NO_SUCH_DAY = 9,                /* there is no such date or day, or the day has no such quarter */
-    SHARE_VALUE_WRONG = 10,               /* negative for a producer, positive for a consumer, or above 99999999 in size */
+    SHARE_VALUE_WRONG = 10,               /* a negative value for a producer, a positive one for a consumer, or one above 99999999 in size */
     SHARE_DAY_CLEARED = 11,               /* the day is cleared, or one of the four weeks before an evaluated day may be */
-    SHARE_STAMP_OUTSIDE = 12,             /* the stamp is below the kept stamp or above the last one */
+    SHARE_STAMP_OUTSIDE = 12,             /* the stamp of an evaluation or of a clear is below the kept stamp or above the last one */
     SHARE_CLOCK_OUTSIDE = 13,             /* the clock is above 999999999999, or the last stamp is that */
     SHARE_JOURNAL_FULL = 14,              /* a new entry is needed and fewer than three numbers of the journal are left */
     SHARE_DAMAGED = 15,                   /* the registration, the record or the journal breaks a rule */

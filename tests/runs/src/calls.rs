@@ -155,6 +155,11 @@ impl Both {
         same("the result list", wanted.0, results, expected)
     }
 
+    /// The record and the journal of the second implementation, as the calls so far left them.
+    pub fn second(&self) -> &Kept {
+        &self.second
+    }
+
     /// Makes a call on both sides: its answer, or what differs.
     pub fn make(&mut self, call: &Call) -> Result<u64, String> {
         match call {

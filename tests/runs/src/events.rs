@@ -5,8 +5,10 @@ use crate::calls::Kept;
 use crate::groups;
 use crate::random::Random;
 use crate::sides::Event;
+use crate::weeks;
 use second::calendar;
-use second::service::Service;
+use second::registration::Registration;
+use second::service::{Service, State};
 use std::sync::OnceLock;
 
 /// A few days and quarters, so that readings meet: a day, those of the weeks before it, and neighbours.
@@ -156,6 +158,28 @@ fn submission(random: &mut Random, service: &Service, slots: &Slots) -> Event {
     }
 }
 
+/// A reading one to four weeks before the first of the slots' days, of a point that has none for that day's quarter or
+/// for any of its weeks: alone it makes the substitute.
+fn lone(random: &mut Random, kept: &Kept, slots: &Slots) -> Option<Event> {
+    let Registration { producers, codes, .. } = kept.service.registration;
+    let point = random.place(kept.service.registration.points());
+    let (first, quarter) = (slots.days[0], random.pick(&slots.quarters));
+    let day = first.checked_sub(7 * random.between(1, 4))?;
+    let none = weeks::shown(kept, point, first, quarter, u64::MAX) == [None; 5];
+    let both_have = [first, day].iter().all(|&on| calendar::quarters(on) >= Some(quarter));
+    if !none || !both_have {
+        return None;
+    }
+    let magnitude = random.pick(&[1, 3, 101, 25_000]);
+    Some(Event::Submission {
+        clock: clock(random, kept.service.state.last),
+        code: codes[point],
+        day,
+        quarter,
+        value: if point < producers { magnitude } else { -magnitude },
+    })
+}
+
 /// A clear: mostly of no day of the slots or the oldest of them.
 fn clear(random: &mut Random, service: &Service, slots: &Slots) -> Event {
     let kept = service.state.kept_day;
@@ -187,13 +211,26 @@ fn evaluation(random: &mut Random, service: &Service, slots: &Slots) -> Event {
     }
 }
 
+/// The first of the slots' days evaluated at the quarter of the journal's last entry, as of the last stamp.
+fn evaluation_at_once(kept: &Kept, slots: &Slots) -> Option<Event> {
+    let State { entries, last, .. } = kept.service.state;
+    let entry = kept.journal.chunks_exact(3).take(entries).next_back()?;
+    Some(Event::Evaluation {
+        day: slots.days[0],
+        quarter: entry[1] % 100 + 1,
+        until: last,
+    })
+}
+
 /// A call on the service and its journal as they stand.
 pub fn event(random: &mut Random, kept: &Kept, slots: &Slots) -> Event {
     let service = &kept.service;
-    match random.below(20) {
+    match random.below(26) {
         0..=3 => again(random, kept).unwrap_or_else(|| submission(random, service, slots)),
-        4..=11 => submission(random, service, slots),
-        12..=13 => clear(random, service, slots),
+        4..=6 => lone(random, kept, slots).unwrap_or_else(|| submission(random, service, slots)),
+        7..=14 => submission(random, service, slots),
+        15..=16 => clear(random, service, slots),
+        17..=19 => evaluation_at_once(kept, slots).unwrap_or_else(|| evaluation(random, service, slots)),
         _ => evaluation(random, service, slots),
     }
 }

@@ -13,3 +13,4 @@ pub mod sheets;
 pub mod sides;
 pub mod smaller;
 pub mod soak;
+pub mod weeks;

@@ -8,7 +8,9 @@ use crate::groups;
 use crate::lines;
 use crate::random::Random;
 use crate::sheets;
+use crate::sides::Event;
 use crate::smaller;
+use crate::weeks;
 use second::refusal;
 use second::registration::Registration;
 use second::service::Service;
@@ -19,6 +21,10 @@ pub const ROUNDS: u64 = 180;
 /// How many calls they are to have at least, and how many of these on damaged records and journals.
 const CALLS_LEAST: (u64, u64) = (300_000, 30_000);
 
+/// How often at least the reading of each week alone is to make a substitute, and a damaged registration to be written
+/// to no byte and to one.
+const CASES_LEAST: u64 = 2_000;
+
 /// A record, a journal and the calls that are made on them.
 struct Scenario {
     start: Kept,
@@ -27,12 +33,56 @@ struct Scenario {
     damaged: bool,
 }
 
-/// What was seen: how often each answer, how many calls, how many on damaged records and journals.
+/// What was seen: how often each answer, how many calls, how many on damaged records and journals; how often the
+/// reading of week 1, 2, 3 or 4 alone made a substitute; how often a damaged registration was written to no byte, and
+/// to one.
 #[derive(Default)]
 struct Seen {
     answers: [u64; 17],
     calls: u64,
     damaged: u64,
+    alone: [u64; 4],
+    short: [u64; 2],
+}
+
+impl Seen {
+    /// Counts a call that both sides answered alike, by what it was made on.
+    fn count(&mut self, kept: &Kept, call: &Call, answer: u64, damaged: bool) {
+        self.answers[answer as usize] += 1;
+        self.calls += 1;
+        self.damaged += u64::from(damaged);
+        match call {
+            Call::Write { buffer, .. } if damaged && buffer.len() < 2 => self.short[buffer.len()] += 1,
+            Call::On {
+                event: Event::Evaluation { day, quarter, until },
+                ..
+            } if answer == 0 => {
+                let alone = weeks::alone(kept, *day, *quarter, *until);
+                (0..4).for_each(|week| self.alone[week] += alone[week]);
+            }
+            _ => (),
+        }
+    }
+
+    /// Says what was seen too seldom for all the rounds of the tests.
+    fn enough(&self) -> Result<(), String> {
+        if let Some(missing) = (0..17).find(|&answer| self.answers[answer] == 0) {
+            return Err(format!("no call was answered by {missing}"));
+        }
+        if self.calls < CALLS_LEAST.0 || self.damaged < CALLS_LEAST.1 {
+            return Err(format!(
+                "{} calls and {} on damaged ones are too few",
+                self.calls, self.damaged
+            ));
+        }
+        if self.alone.iter().chain(&self.short).any(|&seen| seen < CASES_LEAST) {
+            return Err(format!(
+                "too few: {:?} substitutes by one week alone, {:?} writes of a damaged registration to no byte and to one",
+                self.alone, self.short
+            ));
+        }
+        Ok(())
+    }
 }
 
 /// How many numbers a journal has: none to ten, or room for a few, some or many entries, in threes or not.
@@ -150,10 +200,12 @@ fn damaged(random: &mut Random, rule: Break) -> Scenario {
         made.push(Call::Fresh {
             registration: registration.clone(),
         });
-        made.push(Call::Write {
-            registration,
-            buffer: vec![7; random.place(5000)],
-        });
+        for length in [0, 1, random.place(5000)] {
+            made.push(Call::Write {
+                registration: registration.clone(),
+                buffer: vec![7; length],
+            });
+        }
     }
     Scenario {
         start: kept,
@@ -218,25 +270,25 @@ fn texts(random: &mut Random) -> Scenario {
     }
 }
 
-/// Makes the calls of a scenario on both sides: their answers, or what differs.
-fn run(start: &Kept, calls: &[Call], damaged: bool) -> Result<Vec<u64>, String> {
+/// Makes the calls of a scenario on both sides, and counts what was seen; or says what differs.
+fn run(start: &Kept, calls: &[Call], damaged: bool, seen: &mut Seen) -> Result<(), String> {
     let mut both = Both::new(start);
-    let mut answers = Vec::new();
     for call in calls {
         let answer = both.make(call)?;
         if damaged && answer != refusal::DAMAGED {
             return Err(format!("a damaged record or journal was answered by {answer}"));
         }
-        answers.push(answer);
+        seen.count(both.second(), call, answer, damaged);
     }
-    Ok(answers)
+    Ok(())
 }
 
 /// Says what differs: the seed, the fewest calls found that show it, and the service that they are made on.
 fn report(seed: u64, what: &str, scenario: &Scenario) -> String {
     let Scenario { start, calls, damaged } = scenario;
-    let fewest = smaller::smallest(calls, 1000, &mut |calls| run(start, calls, *damaged).is_err());
-    let why = run(start, &fewest, *damaged).err().unwrap_or_default();
+    let differ = |calls: &[Call]| run(start, calls, *damaged, &mut Seen::default()).err();
+    let fewest = smaller::smallest(calls, 1000, &mut |calls| differ(calls).is_some());
+    let why = differ(&fewest).unwrap_or_default();
     let calls: Vec<String> = fewest.iter().map(|call| format!("{call:?}")).collect();
     format!(
         "seed {seed}, {what}: {why}\nThe smallest failing list of calls found:\n{}\non {:?}\nwith the journal {:?}",
@@ -246,15 +298,9 @@ fn report(seed: u64, what: &str, scenario: &Scenario) -> String {
     )
 }
 
-/// Makes a scenario's calls and counts what was seen.
+/// Makes a scenario's calls and counts what was seen; or reports what differs.
 fn count(seed: u64, what: &str, scenario: &Scenario, seen: &mut Seen) -> Result<(), String> {
-    let answers = run(&scenario.start, &scenario.calls, scenario.damaged).map_err(|_| report(seed, what, scenario))?;
-    seen.calls += answers.len() as u64;
-    seen.damaged += if scenario.damaged { answers.len() as u64 } else { 0 };
-    for answer in answers {
-        seen.answers[answer as usize] += 1;
-    }
-    Ok(())
+    run(&scenario.start, &scenario.calls, scenario.damaged, seen).map_err(|_| report(seed, what, scenario))
 }
 
 /// Compares so many rounds of scenarios, the first one that of the seed. In each: services that grow, every rule
@@ -278,23 +324,20 @@ pub fn compare(seed: u64, rounds: u64) -> Result<String, String> {
             count(seed, rule.0, &damaged(random, *rule), &mut seen)?;
         }
     }
-    if let Some(missing) = (0..17).find(|&answer| rounds >= ROUNDS && seen.answers[answer] == 0) {
-        return Err(format!("no call was answered by {missing}"));
-    }
-    if rounds >= ROUNDS && (seen.calls < CALLS_LEAST.0 || seen.damaged < CALLS_LEAST.1) {
-        return Err(format!(
-            "{} calls and {} on damaged ones are too few",
-            seen.calls, seen.damaged
-        ));
+    if rounds >= ROUNDS {
+        seen.enough()?;
     }
     let Seen {
         answers,
         calls,
         damaged,
+        alone,
+        short,
     } = seen;
     Ok(format!(
         "{calls} calls from seed {seed} on, no difference; {damaged} of them on records and journals damaged in {} \
-         ways; answers 0 to 16: {answers:?}",
+         ways, {short:?} of these writes to no byte and to one; substitutes by the reading of week 1, 2, 3 or 4 alone: \
+         {alone:?}; answers 0 to 16: {answers:?}",
         breaks.len()
     ))
 }

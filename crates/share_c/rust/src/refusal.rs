@@ -73,12 +73,14 @@ impl fmt::Display for Refusal {
             }
             Refusal::KeysAbove => "a producer's keys sum to more than 10000",
             Refusal::CodeNotInGroup => "the code is not one of the group's",
-            Refusal::NoSuchDay => "there is no such day, or it has no such quarter",
+            Refusal::NoSuchDay => "there is no such date or day, or the day has no such quarter",
             Refusal::ValueWrong => {
                 "a negative value for a producer, a positive one for a consumer, or one above 99999999 in size"
             }
             Refusal::DayCleared => "the day is cleared, or one of the four weeks before an evaluated day may be",
-            Refusal::StampOutside => "the stamp is below the kept stamp or above the last one",
+            Refusal::StampOutside => {
+                "the stamp of an evaluation or of a clear is below the kept stamp or above the last one"
+            }
             Refusal::ClockOutside => "the clock is above 999999999999, or the last stamp is that",
             Refusal::JournalFull => "a new entry is needed and fewer than three numbers of the journal are left",
             Refusal::Damaged => "the registration, the record or the journal breaks a rule",
