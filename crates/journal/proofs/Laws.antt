@@ -1,18 +1,19 @@
 -- What users of the journal rely on. Assumes nothing.
-use Prim.Native.Nat.{ℕ}
-use mathlib.Core.Path.{_≡_}
+use Prim.Native.Nat.{ℕ, zero, suc}
+use mathlib.Core.Path.{_≡_, refl, ap, _∙_}
 use mathlib.Core.Bool.{true, false, false≢true}
 use mathlib.Core.List.{List}
 use mathlib.Core.Option.{Option, none, some}
 use native.Mathlib.Omega.{arith}
+use lib.IntN.{pos, negℤ, natAbs}
 use lib.Dec.{leb, ltb}
-use borrow.Author.Tests.{leb-true, ltb-true, eqb-true}
+use borrow.Author.Tests.{leb-true, ltb-true, eqb-true, eq-eqb}
 use Rattle.lists.proofs.Cases.{by-test, by-option}
 use Rattle.lists.proofs.Below.{and-left, and-right}
 use Rattle.journal.specs.Order.{Reading, weaker}
 use Rattle.journal.specs.Readings.{strongest, shown, hasStamp}
 use Rattle.journal.specs.Entries.{dayIn, readingsAt, kept, keep}
-use Rattle.journal.specs.Laws.{FindsGreatest, StrongestIsNewest, IsNewest, ShowsNewest, ShownIsNewest, PlaceTells, KeepShows, KeepsNoOlder, EntriesReadAgain, LaterNumbersStay}
+use Rattle.journal.specs.Laws.{MagnitudeIs, SameIsSameMagnitude, FindsGreatest, StrongestIsNewest, IsNewest, ShowsNewest, ShownIsNewest, PlaceTells, KeepShows, KeepsNoOlder, EntriesReadAgain, LaterNumbersStay}
 use Rattle.lists.proofs.Those.{those-pass}
 use Rattle.journal.proofs.Strongest.{FindsStrongest, finds-strongest}
 use Rattle.journal.proofs.Literal.{Tells, shown-tells}
@@ -20,6 +21,18 @@ use Rattle.journal.proofs.PlaceLaws.{pointIn-place, dayIn-place, quarte
 use Rattle.journal.proofs.Entries.{right-rising}
 use Rattle.journal.proofs.Kept.{shown-keep}
 use Rattle.journal.proofs.Stored.{entries-written, emptied-zero, later-stay}
+
+-- a number with a minus before it has the same magnitude
+without-minus : (n : ℕ) → natAbs (negℤ (pos n)) ≡ n
+without-minus zero = refl
+without-minus (suc n) = refl
+
+pub magnitude-is : MagnitudeIs
+magnitude-is m n = (λ e. ap natAbs e, λ e. ap natAbs e ∙ without-minus n)
+
+pub same-is-same-magnitude : SameIsSameMagnitude
+same-is-same-magnitude =
+    (λ r value. (eqb-true (r .value .magnitude) (value .magnitude), eq-eqb (r .value .magnitude) (value .magnitude)), λ value. refl)
 
 -- a reading gives way only to one with a stamp at least as great
 greatest-told : (rs : List Reading) (o : Option Reading) → FindsStrongest rs o → FindsGreatest rs o

@@ -1,15 +1,30 @@
 -- What users of the journal rely on, stated of its definitions; the proofs stand in proofs/Laws.antt. Assumes nothing.
 use Prim.Native.Nat.{ℕ, _+_, _*_, _≤_, _<_}
 use mathlib.Core.Path.{_≡_}
+use mathlib.Core.Bool.{true, false}
+use mathlib.Core.Logic.{_↔_}
 use mathlib.Core.List.{List, [], List·Memᴰ}
 use mathlib.Core.Option.{Option, none, some}
+use lib.IntN.{pos, negℤ}
 use lib.ListN.{length, getD}
+use Rattle.values.specs.declared.Measurement.{Measurement}
 use Rattle.calendar.specs.Dates.{lastDay}
+use Rattle.journal.specs.Value.{Value, valueOf}
 use Rattle.journal.specs.Order.{Reading}
-use Rattle.journal.specs.Readings.{strongest, shown}
+use Rattle.journal.specs.Readings.{strongest, shown, sameAs}
 use Rattle.journal.specs.Entries.{Entry, placeOf, pointIn, dayIn, quarterIn, readingsAt, keep}
 use Rattle.journal.specs.Stored.{entries, written}
 use Rattle.journal.specs.Damage.{Right}
+
+-- the magnitude of a measurement is the number that it brings, without its sign
+abbrev pub MagnitudeIs : Type 0
+MagnitudeIs = (m : Measurement) (n : ℕ) → (m .value ≡ pos n → valueOf m .magnitude ≡ n) × (m .value ≡ negℤ (pos n) → valueOf m .magnitude ≡ n)
+
+-- a value is the same as that of a reading exactly where their magnitudes are equal, and where there is no reading it is not
+abbrev pub SameIsSameMagnitude : Type 0
+SameIsSameMagnitude =
+    ((r : Reading) (value : Value) → (sameAs (some r) value ≡ true) ↔ (r .value .magnitude ≡ value .magnitude))
+    × ((value : Value) → sameAs none value ≡ false)
 
 -- m is the newest of the readings: one of them, and none of them has a greater stamp
 pub record IsGreatest (rs : List Reading) (m : Reading) : Type 0 where
