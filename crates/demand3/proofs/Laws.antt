@@ -1,5 +1,4 @@
 -- The newest reading that the book has for a measurement, told by its notes. Assumes nothing.
-use Prim.Native.Nat.{ℕ}
 use mathlib.Core.Path.{_≡_, refl}
 use mathlib.Core.Bool.{true, false, true≢false}
 use mathlib.Core.Logic.{⊎-elim}

@@ -1,5 +1,5 @@
 -- What a reader of the book relies on, stated of its definitions; the proofs stand in proofs/Laws.antt. Assumes nothing.
-use Prim.Native.Nat.{ℕ, _≤_}
+use Prim.Native.Nat.{_≤_}
 use mathlib.Core.Path.{_≡_}
 use mathlib.Core.List.{List·Memᴰ}
 use mathlib.Core.Option.{Option, none, some}

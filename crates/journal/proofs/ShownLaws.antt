@@ -26,7 +26,7 @@ abbrev pub Rising : ℕ → List Reading → Type 0
 Rising lo [] = Unit {0}
 Rising lo (r ∷ rs) = (lo < r .stamp) × Rising (r .stamp) rs
 
--- so is each stamp among them
+-- a stamp among stamps of at most hi is at most hi, and one among stamps that rise above lo is above lo
 under-among : (hi : ℕ) (rs : List Reading) (m : Reading) → Under hi rs → List·Memᴰ m rs → m .stamp ≤ hi
 under-among hi [] m u a = absurd (List·Memᴰ·not-nil a)
 under-among hi (r ∷ rs) m u a = ⊎-elim (λ (e : m ≡ r). rw e (u .0)) (λ b. under-among hi rs m (u .1) b) (List·Memᴰ·cases-cons a)

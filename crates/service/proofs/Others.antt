@@ -1,7 +1,7 @@
 -- What an accepted submission or clear leaves of the journal's numbers. Assumes nothing.
-use Prim.Native.Nat.{ℕ, _+_, _*_, _-_, _≤_, _<_}
+use Prim.Native.Nat.{ℕ, _+_, _*_, _-_, _≤_}
 use native.Mathlib.Omega.{arith}
-use mathlib.Core.Path.{_≡_, refl, sym, ap, _∙_}
+use mathlib.Core.Path.{_≡_, sym, ap, _∙_}
 use mathlib.Core.Bool.{true, false}
 use mathlib.Core.List.{List, [], _∷_, _++_}
 use lib.ListN.{length, getD, length-append}
@@ -40,6 +40,7 @@ module _ (s : Service) (j : List ℕ) (clock : ℕ) (m : Measurement) (e : refus
   abbrev more : List Entry
   more = entries count j ++ (entryOf G (nextStamp clock last) m ∷ [])
 
+  -- the verdict, and what follows from it: the entries that there were have room
   accepted : submissionVerdict last G clock m ≡ Accepted
   unfolding step
   accepted = accepted-verdict (submissionVerdict last G clock m) last G [] (submitted last G clock m) (ap refused (sym (through s j (Submission clock m) .seen)) ∙ e)
@@ -50,6 +51,7 @@ module _ (s : Service) (j : List ℕ) (clock : ℕ) (m : Measurement) (e : refus
   more-by-one : length more ≡ count + 1
   more-by-one = omega (arith, length-append (entries count j) (entryOf G (nextStamp clock last) m ∷ []), length-entries count j)
 
+  -- the journal of a repeat, and that with an entry more
   repeated : repeats last G m ≡ true → callOn s j (Submission clock m) .journal ≡ j
   unfolding callOn step submitted
   repeated r = rw (accepted, r) (written-again s j fits)
@@ -60,6 +62,7 @@ module _ (s : Service) (j : List ℕ) (clock : ℕ) (m : Measurement) (e : refus
       let none : count - length more ≡ 0 = omega (arith, more-by-one) in
       rw (accepted, r, none)
 
+  -- the entry count with an entry more
   counted : repeats last G m ≡ false → callOn s j (Submission clock m) .service .state .numbers .entries ≡ count + 1
   unfolding callOn step submitted
   counted r = rw (accepted, r) more-by-one
@@ -80,15 +83,18 @@ module _ (s : Service) (j : List ℕ) (day stamp : ℕ) (e : refused (callOn s j
   abbrev kept : List Entry
   kept = keep day stamp (groupOf s j .entries)
 
+  -- the verdict
   clear-accepted : clearVerdict (s .state .last) (groupOf s j) day stamp ≡ Accepted
   unfolding step
   clear-accepted =
       accepted-verdict (clearVerdict (s .state .last) (groupOf s j) day stamp) (s .state .last) (groupOf s j) [] (cleared (s .state .last) (groupOf s j) day stamp)
       (ap refused (sym (through s j (Clear day stamp) .seen)) ∙ e)
 
+  -- no more are kept than there were
   few : length kept ≤ s .state .numbers .entries
   few = omega (arith, length-keep day stamp (groupOf s j .entries), length-entries (s .state .numbers .entries) j)
 
+  -- the journal that is left, and its entry count
   left-journal : callOn s j (Clear day stamp) .journal ≡ written kept (s .state .numbers .entries - length kept) j
   unfolding callOn step cleared
   left-journal = rw clear-accepted
