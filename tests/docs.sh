@@ -3,6 +3,7 @@
 # A path is a word in backquotes that begins with crates/, docs/, tests/, tools/ or .ci/. A word in backquotes behind a path and a colon,
 # as in `crates/calendar/specs/Dates.antt`: `dayOf`, has to stand in that file as a whole word. The example of README.md is the input and
 # the output of a run in tests/share. The table of refusals is the same wherever it stands: in numbers and names, and in meanings where a user reads them.
+# The files that docs/READING.md lists use nothing of the project that stands elsewhere, and have about as many lines as it says.
 set -u
 cd "$(dirname "$0")/.." || exit 1
 bad=0
@@ -38,6 +39,37 @@ for example in tests/share/list.in tests/share/list.out; do
         bad=1
     fi
 done
+
+# The files of a table of docs/READING.md, by its heading.
+listed() {
+    sed -n "/^## $1\$/,/^## /p" docs/READING.md | sed -nE 's/^\| `(crates[^`]*)` .*/\1/p'
+}
+
+# Holds the files given to a number of lines, and to standing by themselves: every definition of the project that they use is in one of the files before it.
+reads() {
+    local least=$1 most=$2 files=$3 all=$4 lines used
+    checked=$((checked + 1))
+    # shellcheck disable=SC2086
+    lines=$(cat $files | grep -vcE '^use |^$')
+    if [ "$lines" -lt "$least" ] || [ "$lines" -gt "$most" ]; then
+        echo "docs/READING.md lists files of $lines lines together, and says another number"
+        bad=1
+    fi
+    # shellcheck disable=SC2086
+    used=$(sed -nE 's/^use Rattle·([a-z0-9_]+)(·specs)?\.specs\.([A-Z][A-Za-z]*)\..*/crates\/\1\/specs\/\3.antt/p' $files | sort -u)
+    while read -r file; do
+        if ! grep -qx "$file" <<<"$all"; then
+            echo "a file that docs/READING.md lists uses $file, which it does not list"
+            bad=1
+        fi
+    done <<<"$used"
+}
+
+calls=$(listed "The calls")
+texts=$(listed "Text and program")
+reads 950 1050 "$calls" "$calls"
+reads 550 650 "$texts" "$calls
+$texts"
 
 # What a text says of the refusals, by the lines that a substitution gives, with names in one way of writing: NotInColumns becomes NOT_IN_COLUMNS.
 rows() {
