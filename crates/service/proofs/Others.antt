@@ -23,7 +23,7 @@ use Rattle.service.specs.Laws.{SubmissionLeavesOthers, ClearLeavesLater}
 use Rattle.group.proofs.Admitted.{admitted}
 use Rattle.group.proofs.Undamaged.{fits-of}
 use Rattle.service.proofs.Accepted.{accepted-verdict}
-use Rattle.service.proofs.ReadAgain.{through}
+use Rattle.service.proofs.ReadAgain.{same-seen}
 use Rattle.service.proofs.Cores.{written-again}
 
 module _ (s : Service) (j : List ℕ) (clock : ℕ) (m : Measurement) (e : refused (callOn s j (Submission clock m) .seen) ≡ false) where
@@ -43,7 +43,7 @@ module _ (s : Service) (j : List ℕ) (clock : ℕ) (m : Measurement) (e : refus
   -- the verdict, and what follows from it: the entries that there were have room
   accepted : submissionVerdict last G clock m ≡ Accepted
   unfolding step
-  accepted = accepted-verdict (submissionVerdict last G clock m) last G [] (submitted last G clock m) (ap refused (sym (through s j (Submission clock m) .seen)) ∙ e)
+  accepted = accepted-verdict (submissionVerdict last G clock m) last G [] (submitted last G clock m) (ap refused (sym (same-seen s j (Submission clock m))) ∙ e)
 
   fits : 3 * count ≤ length j
   fits = fits-of (s .registration) (s .state .numbers) j (admitted last G clock m accepted .sound)
@@ -88,7 +88,7 @@ module _ (s : Service) (j : List ℕ) (day stamp : ℕ) (e : refused (callOn s j
   unfolding step
   clear-accepted =
       accepted-verdict (clearVerdict (s .state .last) (groupOf s j) day stamp) (s .state .last) (groupOf s j) [] (cleared (s .state .last) (groupOf s j) day stamp)
-      (ap refused (sym (through s j (Clear day stamp) .seen)) ∙ e)
+      (ap refused (sym (same-seen s j (Clear day stamp))) ∙ e)
 
   -- no more are kept than there were
   few : length kept ≤ s .state .numbers .entries

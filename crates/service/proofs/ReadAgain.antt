@@ -15,6 +15,18 @@ use Rattle.service.specs.Record.{groupOf, Left, writtenBack, callOn}
 use Rattle.service.specs.Laws.{lentBy}
 use Rattle.service.proofs.Leaves.{Fits, Leaves, leaves}
 
+-- what is seen stays what it was, whether the group is written back or not
+seen-kept : (verdict : Verdict) (s : Service) (j : List ℕ) (after : After) → writtenBack verdict s j after .seen ≡ after .seen
+seen-kept Accepted s j after = refl
+seen-kept (Refused refusal) s j after = refl
+
+-- a call on record and journal shows what it shows on the group that they hold
+pub same-seen : (s : Service) (j : List ℕ) (call : Call) → callOn s j call .seen ≡ step (s .state .last) (groupOf s j) call .seen
+unfolding callOn
+same-seen s j call =
+    let after = step (s .state .last) (groupOf s j) call in
+    seen-kept (after .seen .verdict) s j after
+
 -- what is left in record and journal, of what is left of the group
 pub record Through (s : Service) (j : List ℕ) (after : After) (left : Left) : Type 0 where
   pub seen : left .seen ≡ after .seen
