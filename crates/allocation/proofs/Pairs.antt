@@ -1,35 +1,16 @@
 -- Numbers of a group's pairs in a list: how many there are, where each stands, and that equal ones make equal lists. Assumes nothing.
-use Prim.Native.Nat.{ℕ, zero, suc, _+_, _<_}
+use Prim.Native.Nat.{ℕ, _+_, _<_}
 use mathlib.Core.Path.{_≡_, ap, _∙_}
 use mathlib.Core.Bool.{cond}
-use mathlib.Core.List.{List, _++_}
-use native.Mathlib.Nat.{not-suc-le-zero}
 use native.Mathlib.Omega.{arith}
 use lib.Dec.{eqb}
-use lib.ListN.{length, getD, List·getD-append}
-use lib.Seq.{getD-append-add}
-use Rattle.lists.specs.Below.{sumBelow}
-use Rattle.lists.specs.Tables.{joined}
-use Rattle.lists.proofs.Below.{below, sum-next, sum-same}
-use Rattle.lists.proofs.Sums.{sum-more}
-use Rattle.lists.proofs.TableLaws.{joined-suc, joined-same, length-joined, table-same, length-table, table-at}
+use lib.ListN.{length, getD}
+use Rattle.lists.proofs.Below.{sum-same}
+use Rattle.lists.proofs.TableLaws.{joined-same, joined-at, length-joined, table-same, length-table, table-at}
 use Rattle.registration.specs.declared.Registration.{Registration}
 use Rattle.registration.specs.Rules.{countAt, sourceAt}
 use Rattle.registration.specs.Pairs.{ofConsumer, ofProducer, pairsBefore, pairsIn}
 use Rattle.allocation.specs.Result.{pairsOf}
-
--- a number of a piece, among pieces of these sizes one after the other
-joined-at : (piece : ℕ → List ℕ) (size : ℕ → ℕ) → ((i : ℕ) → length (piece i) ≡ size i) → (n i k : ℕ) → i < n → k < size i
-    → getD (joined piece n) (sumBelow size i + k) 0 ≡ getD (piece i) k 0
-joined-at piece size each zero i k h l = absurd (not-suc-le-zero h)
-joined-at piece size each (suc n) i k h l =
-    let before = length-joined piece size n each in
-    rw joined-suc
-    (below (λ (i : ℕ). (k : ℕ) → k < size i → getD (joined piece n ++ piece n) (sumBelow size i + k) 0 ≡ getD (piece i) k 0) n i h
-    (λ m k l.
-    List·getD-append (joined piece n) (piece n) 0 (sumBelow size i + k) (omega (arith, before, sum-next size i, sum-more size (i + 1) n (omega arith)))
-    ∙ joined-at piece size each n i k m l)
-    (λ k l. rw (← before) (getD-append-add (joined piece n) (piece n) k 0)) k l)
 
 module _ (r : Registration) where
   -- there are as many as the consumers have pairs

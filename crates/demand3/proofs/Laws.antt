@@ -8,12 +8,11 @@ use lib.Dec.{eqb}
 use borrow.Author.Tests.{eqb-true, eq-eqb}
 use Rattle.lists.specs.Those.{those}
 use Rattle.lists.proofs.Cases.{by-test}
-use Rattle.lists.proofs.Those.{those-pass}
+use Rattle.lists.proofs.Those.{those-pass, those-among, among-those}
 use Rattle.values.specs.declared.Measurement.{Measurement}
 use Rattle.journal.specs.Order.{Reading}
 use Rattle.journal.specs.Readings.{strongest}
 use Rattle.journal.specs.Laws.{FindsGreatest}
-use Rattle.journal.proofs.Among.{those-among, among-those}
 use Rattle.journal.proofs.Laws.{strongest-is-newest}
 use Rattle.demand3.specs.Book.{Note, Page, isFor, noted}
 use Rattle.demand3.specs.Laws.{IsOf, FindsNewest, NewestNotedIsNewest}

@@ -2,7 +2,6 @@ pub mod Order
 pub mod InTime
 pub mod Strongest
 pub mod ShownLaws
-pub mod Among
 pub mod Literal
 pub mod PlaceLaws
 pub mod Kept

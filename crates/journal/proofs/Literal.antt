@@ -7,8 +7,7 @@ use mathlib.Core.Option.{Option, none, some}
 use Rattle.journal.specs.Order.{Reading, weaker}
 use Rattle.journal.specs.Readings.{strongest, inTime, asOf, shown}
 use Rattle.lists.proofs.Cases.{by-test}
-use Rattle.lists.proofs.Those.{those-pass}
-use Rattle.journal.proofs.Among.{among-those, those-among}
+use Rattle.lists.proofs.Those.{those-pass, those-among, among-those}
 use Rattle.journal.proofs.InTime.{in-time, in-time-told, late-told}
 use Rattle.journal.proofs.Strongest.{FindsStrongest, finds-strongest}
 
