@@ -1,11 +1,12 @@
 -- What users of an evaluation rely on: means are nearest, and of the four earlier weeks; results have their size and their parts, their numbers add
 -- up, and how large they are at most. Assumes nothing.
 use Prim.Native.Nat.{ℕ, _+_, _*_, _≤_, _<_}
-use mathlib.Core.Path.{_≡_}
+use mathlib.Core.Path.{_≡_, refl}
 use mathlib.Core.List.{List}
-use native.Mathlib.Nat.{zero-add, mul-div-le, lt-mul-div-succ}
+use native.Mathlib.Nat.{zero-add}
 use native.Mathlib.Omega.{arith}
 use lib.Dec.{leb}
+use lib.ListN.{length}
 use borrow.Author.Tests.{leb-true, leb-false, ltb-false}
 use Rattle.lists.specs.Place.{placed}
 use Rattle.lists.proofs.Below.{sum-bound}
@@ -19,18 +20,22 @@ use Rattle.allocation.specs.Result.{allocationOf, pairShare}
 use Rattle.allocation.proofs.Laws.{undamaged-is-shareable, allocation-keeps-supplies, allocation-keeps-withdrawals, allocation-lengths}
 use Rattle.allocation.proofs.Pairs.{of-consumer-same, of-producer-same}
 use Rattle.allocation.proofs.Shareable.{few-points, count-most, count-within}
+use Rattle.evaluation.specs.Mean.{sumOf, nearest}
 use Rattle.evaluation.specs.Substitutes.{notActive, magnitudeOf}
 use Rattle.evaluation.specs.Evaluation.{evaluationOf}
 use Rattle.registration.specs.Pairs.{pairsBefore, pairsIn}
 use Rattle.evaluation.specs.Layout.{Shares, Withdrawals, Supplies, resultOf, HasLengths}
-use Rattle.evaluation.specs.Laws.{MeanIsNearest, ReadingCounts, MissingCountsZero, MissingIsMean, PartLengths, ResultSize, PartsStand, pairNumber, ResultKeepsSupplies, ResultKeepsWithdrawals, ResultWithinMost}
-use Rattle.evaluation.proofs.Nearest.{nearest-some}
+use Rattle.evaluation.specs.Laws.{MeanIsNearest, MeanOfNone, ReadingCounts, MissingCountsZero, MissingIsMean, PartLengths, ResultSize, PartsStand, pairNumber, ResultKeepsSupplies, ResultKeepsWithdrawals, ResultWithinMost}
+use Rattle.evaluation.proofs.Nearest.{nearest-by-halves}
 use Rattle.evaluation.proofs.Missing.{weeks-exist}
 use Rattle.evaluation.proofs.Parts.{shares-there, size-of-parts, part-stands, number-stands}
 
 pub mean-is-nearest : MeanIsNearest
-mean-is-nearest sum count h =
-    rw (nearest-some sum count h) (omega (arith, mul-div-le (2 * sum + count) (2 * count), lt-mul-div-succ (2 * sum + count) {b = 2 * count} (omega arith)))
+mean-is-nearest values h = nearest-by-halves (sumOf values) (length values) h
+
+pub mean-of-none : MeanOfNone
+unfolding sumOf nearest
+mean-of-none = refl
 
 pub reading-counts : ReadingCounts
 unfolding magnitudeOf

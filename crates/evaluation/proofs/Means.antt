@@ -14,7 +14,7 @@ use Rattle.values.specs.Values.{magnitudeMost}
 use Rattle.evaluation.specs.Mean.{sumOf, nearest, meanOf}
 use Rattle.evaluation.specs.Substitutes.{existing, fourWeeks}
 use Rattle.evaluation.specs.Working.{valueFor, numberAt, weekOf, weeksOf}
-use Rattle.evaluation.proofs.Laws.{mean-is-nearest}
+use Rattle.evaluation.proofs.Nearest.{nearest-by-halves}
 
 -- a number 0 has no value
 values-skip : (number : ℕ) (values : List (Option Value)) → number ≡ 0 → existing (valueFor number ∷ values) ≡ existing values
@@ -113,7 +113,7 @@ nearest-within sum (suc n) h =
     (λ f.
     let over : magnitudeMost + 1 ≤ nearest sum count = leb-false (nearest sum count) magnitudeMost f in
     let product : count * (magnitudeMost + 1) ≤ count * nearest sum count = mul-le-mul (omega arith) over in
-    absurd (omega (arith, mean-is-nearest sum count (omega arith))))
+    absurd (omega (arith, nearest-by-halves sum count (omega arith))))
 
 -- a value that need not exist is at most the greatest magnitude
 abbrev pub Small : Option Value → Type 0

@@ -1,7 +1,7 @@
 -- The nearest whole number by the quotient and what is left over. Assumes nothing.
 use Prim.Native.Nat.{ℕ, _+_, _-_, _*_, _/_, _%_, _≤_, _<_}
 use mathlib.Core.Path.{_≡_, _∙_}
-use native.Mathlib.Nat.{mul-comm, mul-left-comm, add-mul, div-add-mod, mod-lt, div-eq-of-lt-le, mul-le-mul}
+use native.Mathlib.Nat.{mul-comm, mul-left-comm, add-mul, mul-div-le, lt-mul-div-succ, div-add-mod, mod-lt, div-eq-of-lt-le, mul-le-mul}
 use native.Mathlib.Omega.{arith}
 use borrow.Author.Tests.{ne-eqb}
 use Rattle.evaluation.specs.Mean.{nearest}
@@ -15,6 +15,11 @@ module _ (sum count : ℕ) (some : 1 ≤ count) where
   pub nearest-some : nearest sum count ≡ (2 * sum + count) / (2 * count)
   unfolding nearest
   nearest-some = rw (ne-eqb count 0 (omega arith))
+
+  -- at most half a unit above the sum divided by the count, and less than half a unit below it
+  pub nearest-by-halves : (2 * (count * nearest sum count) ≤ 2 * sum + count) × (2 * sum < 2 * (count * nearest sum count) + count)
+  nearest-by-halves =
+      rw nearest-some (omega (arith, mul-div-le (2 * sum + count) (2 * count), lt-mul-div-succ (2 * sum + count) {b = 2 * count} (omega arith)))
 
   -- the quotient, where what is left over is less than half the count
   pub nearest-down : sum % count < count - sum % count → nearest sum count ≡ sum / count

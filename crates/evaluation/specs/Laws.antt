@@ -14,15 +14,20 @@ use Rattle.journal.specs.Order.{Reading}
 use Rattle.journal.specs.Readings.{shown}
 use Rattle.allocation.specs.Input.{Shareable}
 use Rattle.allocation.specs.Result.{Allocation, allocationOf}
-use Rattle.evaluation.specs.Mean.{nearest, meanOf}
+use Rattle.evaluation.specs.Mean.{sumOf, meanOf}
 use Rattle.evaluation.specs.Substitutes.{magnitudeOf}
 use Rattle.evaluation.specs.Layout.{Part, Shares, Withdrawals, Supplies, sizeOf, resultMost, partIn, partOf, resultOf, HasLengths}
 
--- the mean is the whole number nearest to the sum divided by the count, halves up: at most half a unit above it, and less than half a unit below it
+-- the mean of values is the whole number nearest to their sum divided by how many they are, halves up: at most half a unit above it, and less than half a unit below it
 abbrev pub MeanIsNearest : Type 0
 MeanIsNearest =
-    (sum count : ℕ) → 1 ≤ count
-    → (2 * (count * nearest sum count) ≤ 2 * sum + count) × (2 * sum < 2 * (count * nearest sum count) + count)
+    (values : List ℕ) → 1 ≤ length values
+    → (2 * (length values * meanOf values) ≤ 2 * sumOf values + length values)
+    × (2 * sumOf values < 2 * (length values * meanOf values) + length values)
+
+-- the mean of no values is 0
+abbrev pub MeanOfNone : Type 0
+MeanOfNone = meanOf [] ≡ 0
 
 -- the magnitude of a reading that is shown: one number, or none where none is shown
 abbrev pub magnitudeShown : Option Reading → List ℕ

@@ -12,11 +12,11 @@ use Rattle.lists.specs.Below.{sumBelow}
 use Rattle.lists.proofs.Below.{and-left, every-at, sum-same}
 use Rattle.lists.proofs.Sums.{sum-rows}
 use Rattle.registration.specs.declared.Registration.{Registration}
-use Rattle.registration.specs.Rules.{countAt, keyAt, consumerRight, pairPlaces, keysOf}
+use Rattle.registration.specs.Rules.{countAt, keyAt, pointCountsRight, consumerRight, consumersRight, pairPlaces, keysOf}
 use Rattle.registration.specs.Pairs.{ofProducer}
-use Rattle.registration.specs.Damage.{isDamaged}
+use Rattle.registration.specs.Damage.{unusedZero}
 use Rattle.registration.proofs.Bounds.{count-bounds}
-use Rattle.registration.proofs.Damage.{undamaged-parts, point-bounds}
+use Rattle.registration.proofs.Damage.{point-bounds}
 use Rattle.registration.proofs.Keys.{keyFor}
 use Rattle.registration.proofs.Unused.{no-pairs, no-source}
 
@@ -31,7 +31,7 @@ sum-short f m (suc n) h none =
     (λ l. let here = none n (le-of-suc-le-suc l) (omega arith) in omega (arith, here, sum-short f m n (le-of-suc-le-suc l) (λ i a b. none i a (omega arith))))
     (eq-or-lt-of-le h)
 
-module _ (r : Registration) (undamaged : isDamaged r ≡ false) (producer : ℕ) where
+module _ (r : Registration) (points : pointCountsRight (r .producers) (r .consumers) ≡ true) (named : consumersRight r ≡ true) (unused : unusedZero r ≡ true) (producer : ℕ) where
   -- the key at a place that names this producer
   abbrev key : ℕ → ℕ
   key = keyFor (r .sources) (r .keys) (producer + 1)
@@ -44,17 +44,16 @@ module _ (r : Registration) (undamaged : isDamaged r ≡ false) (producer : ℕ)
   of-consumer : (consumer : ℕ) → consumer < r .consumers
       → sumBelow (λ k. key (5 * consumer + k)) 5 ≡ sumBelow (λ k. key (5 * consumer + k)) (countAt r consumer)
   of-consumer consumer h =
-      let parts = undamaged-parts r undamaged in
-      let few = point-bounds (r .producers) (r .consumers) (parts .point-counts) in
-      let most = count-bounds (countAt r consumer) (and-left _ _ (every-at (consumerRight r) (r .consumers) consumer (parts .consumers) h)) .1 in
+      let few = point-bounds (r .producers) (r .consumers) points in
+      let most = count-bounds (countAt r consumer) (and-left _ _ (every-at (consumerRight r) (r .consumers) consumer named h)) .1 in
       sum-short _ (countAt r consumer) 5 most
-      (λ k l m. no-key (5 * consumer + k) (no-pairs r undamaged consumer (omega arith) k l m .0))
+      (λ k l m. no-key (5 * consumer + k) (no-pairs r unused consumer (omega arith) k l m .0))
 
   -- all consumers have their places among those that are summed
   all-consumers : sumBelow key pairPlaces ≡ sumBelow key (5 * r .consumers)
   all-consumers =
-      let few = point-bounds (r .producers) (r .consumers) (undamaged-parts r undamaged .point-counts) in
-      sum-short key (5 * r .consumers) pairPlaces (omega arith) (λ place l m. no-key place (no-source r undamaged place l (omega arith)))
+      let few = point-bounds (r .producers) (r .consumers) points in
+      sum-short key (5 * r .consumers) pairPlaces (omega arith) (λ place l m. no-key place (no-source r unused place l (omega arith)))
 
   pub by-pair : keysOf (r .sources) (r .keys) producer ≡ ofProducer r (keyAt r) producer
   by-pair = all-consumers ∙ sum-rows key 5 (r .consumers) ∙ sum-same _ _ (r .consumers) of-consumer

@@ -11,4 +11,4 @@ pub one-digit-errors : OneDigitErrors
 one-digit-errors code other place t h altered others = one-digit-false code other place t h altered others
 
 pub keys-by-pair : KeysByPair
-keys-by-pair r undamaged producer = by-pair r undamaged producer
+keys-by-pair r points named unused producer = by-pair r points named unused producer

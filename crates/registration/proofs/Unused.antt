@@ -1,4 +1,4 @@
--- Where an undamaged registration has zeros: after its consumers, and after the producers that each names. Assumes nothing.
+-- Where a registration whose unused numbers are 0 has zeros: after its consumers, and after the producers that each names. Assumes nothing.
 use Prim.Native.Nat.{ℕ, _+_, _*_, _/_, _%_, _≤_, _<_}
 use mathlib.Core.Path.{_≡_}
 use mathlib.Core.Bool.{Bool, true, false, _&&_, _||_}
@@ -12,8 +12,7 @@ use Rattle.lists.specs.Below.{every}
 use Rattle.lists.proofs.Below.{both, every-at}
 use Rattle.registration.specs.declared.Registration.{Registration}
 use Rattle.registration.specs.Rules.{points, countAt, sourceAt, keyAt}
-use Rattle.registration.specs.Damage.{zerosFrom, pairsUnused, isDamaged}
-use Rattle.registration.proofs.Damage.{Undamaged, undamaged-parts}
+use Rattle.registration.specs.Damage.{zerosFrom, pairsUnused, unusedZero}
 
 -- after the producers that a consumer names there are zeros
 abbrev pub Unused : Registration → ℕ → Type 0
@@ -42,11 +41,11 @@ places xs n zeros i h l =
     let s : i % 5 < 5 = mod-lt i (omega arith) in
     rw q at (zeros (i / 5) (omega arith) (omega arith) (i % 5) s)
 
-module _ (r : Registration) (undamaged : isDamaged r ≡ false) where
+module _ (r : Registration) (unused : unusedZero r ≡ true) where
   pub zero-after : (zerosFrom 64 (points r) (r .codes) ≡ true) × (zerosFrom 64 (points r) (r .statuses) ≡ true)
       × (zerosFrom 64 (r .consumers) (r .counts) ≡ true) × (every (pairsUnused r) 64 ≡ true)
   zero-after =
-      let a = both _ (every (pairsUnused r) 64) (undamaged-parts r undamaged .unused) in
+      let a = both _ (every (pairsUnused r) 64) unused in
       let b = both _ (zerosFrom 64 (r .consumers) (r .counts)) (a .0) in
       let c = both _ (zerosFrom 64 (points r) (r .statuses)) (b .0) in
       (c .0, c .1, b .1, a .1)

@@ -5,9 +5,9 @@ use mathlib.Core.Bool.{true, false}
 use mathlib.Core.Logic.{_↔_}
 use Rattle.registration.specs.declared.Registration.{Registration}
 use Rattle.registration.specs.Code.{isCode}
-use Rattle.registration.specs.Rules.{keyAt, keysOf}
+use Rattle.registration.specs.Rules.{keyAt, pointCountsRight, consumersRight, keysOf}
 use Rattle.registration.specs.Pairs.{ofProducer}
-use Rattle.registration.specs.Damage.{isDamaged}
+use Rattle.registration.specs.Damage.{unusedZero}
 
 -- the digit of a number at a place, counted from the right from 0
 abbrev pub digit : (place number : ℕ) → ℕ
@@ -32,7 +32,9 @@ OneDigitErrors =
     (code other place : ℕ) → isCode code ≡ true → place < 18 → (digit place other ≡ digit place code → ⊥)
     → ((k : ℕ) → k < 18 → (k ≡ place → ⊥) → digit k other ≡ digit k code) → isCode other ≡ false
 
--- a producer's keys, which the rule on keys sums over all places, are those of the pairs by which it shares
+-- a producer's keys, which the rule on keys sums over all places, are those of the pairs by which it shares: so it is wherever the rules on points, on what
+-- consumers name and on unused numbers are kept, whatever the keys sum to
 abbrev pub KeysByPair : Type 0
 KeysByPair =
-    (r : Registration) → isDamaged r ≡ false → (producer : ℕ) → keysOf (r .sources) (r .keys) producer ≡ ofProducer r (keyAt r) producer
+    (r : Registration) → pointCountsRight (r .producers) (r .consumers) ≡ true → consumersRight r ≡ true → unusedZero r ≡ true
+    → (producer : ℕ) → keysOf (r .sources) (r .keys) producer ≡ ofProducer r (keyAt r) producer

@@ -63,11 +63,11 @@ module _ (r : Registration) (sized : Sized r) (undamaged : isDamaged r ≡ false
   all-read : upToConsumer r (r .consumers) ≡ r
   all-read =
       let n = r .consumers in
-      let a = front-self 64 (points r) (r .codes) (sized .codes) (zeros-at 64 (points r) (r .codes) (zero-after r undamaged .0)) in
-      let b = front-self 64 (points r) (r .statuses) (sized .statuses) (zeros-at 64 (points r) (r .statuses) (zero-after r undamaged .1)) in
-      let c = front-self 64 n (r .counts) (sized .counts) (no-count r undamaged) in
-      let d = front-self 320 (5 * n) (r .sources) (sized .sources) (places (r .sources) n (λ c h l k m. no-pairs r undamaged c l k (omega (arith, no-count r undamaged c h l)) m .0)) in
-      let e = front-self 320 (5 * n) (r .keys) (sized .keys) (places (r .keys) n (λ c h l k m. no-pairs r undamaged c l k (omega (arith, no-count r undamaged c h l)) m .1)) in
+      let a = front-self 64 (points r) (r .codes) (sized .codes) (zeros-at 64 (points r) (r .codes) (zero-after r (parts .unused) .0)) in
+      let b = front-self 64 (points r) (r .statuses) (sized .statuses) (zeros-at 64 (points r) (r .statuses) (zero-after r (parts .unused) .1)) in
+      let c = front-self 64 n (r .counts) (sized .counts) (no-count r (parts .unused)) in
+      let d = front-self 320 (5 * n) (r .sources) (sized .sources) (places (r .sources) n (λ c h l k m. no-pairs r (parts .unused) c l k (omega (arith, no-count r (parts .unused) c h l)) m .0)) in
+      let e = front-self 320 (5 * n) (r .keys) (sized .keys) (places (r .keys) n (λ c h l k m. no-pairs r (parts .unused) c l k (omega (arith, no-count r (parts .unused) c h l)) m .1)) in
       λ i.
       record {
         producers = r .producers;
@@ -87,7 +87,7 @@ module _ (r : Registration) (sized : Sized r) (undamaged : isDamaged r ≡ false
         group = record { counted = parts .point-counts; iterated = parts .iteration };
         point = right-point;
         consumer = right-consumer;
-        unused = λ c h. no-pairs r undamaged c (omega arith);
+        unused = λ c h. no-pairs r (parts .unused) c (omega arith);
         whole = all-read;
         differ = parts .differ;
         keys = parts .keys;
