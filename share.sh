@@ -32,11 +32,11 @@ folders() {
         }' "$home/crates.txt"
 }
 
-# Whether the program is there, rt has noted it as proved, and nothing that it stands on is newer.
+# Whether the program is there, rt has noted it as proved, and nothing that it stands on was altered, replaced or removed after it.
 stands() {
     local on
     mapfile -t on < <(folders)
-    [ -x "$program" ] && [ -e "$note" ] && [ -z "$(find "$home/crates.txt" "${on[@]}" -newer "$program" -print -quit 2>&1)" ]
+    [ -x "$program" ] && [ -e "$note" ] && [ -z "$(find "$home/crates.txt" "${on[@]}" \( -newer "$program" -o -cnewer "$program" \) -print -quit 2>&1)" ]
 }
 
 # Proves and builds the program. It gets the time at which this began, so that a file altered meanwhile is newer.
@@ -45,7 +45,7 @@ build() {
         echo "share.sh: the Rattle kit is not installed: there is no command rt on the path" >&2
         exit 2
     fi
-    folder=$(mktemp -d)
+    folder=$(mktemp -d) || exit 2
     trap 'rm -rf "$folder"' EXIT
     touch "$folder/began"
     if [ ! -x "$program" ]; then
@@ -55,7 +55,12 @@ build() {
     fi
     (cd "$home" && rt check share) </dev/null 2>&1 | tee "$folder/log" | sed -unE 's/^rt: ([a-z0-9_]+ proved \([0-9]+ s\))$/share.sh: \1/p' >&2
     if [ "${PIPESTATUS[0]}" -ne 0 ]; then
+        echo "share.sh: the program is not proved; rt says:" >&2
         cat "$folder/log" >&2
+        exit 1
+    fi
+    if [ ! -x "$program" ]; then
+        echo "share.sh: rt proved the program and left none" >&2
         exit 1
     fi
     touch -r "$folder/began" "$program"
@@ -67,10 +72,18 @@ if ! command -v flock >/dev/null 2>&1; then
     exit 2
 fi
 exec 9<"$home"
-if ! flock -w 1 9; then
+flock -E 75 -w 1 9
+case $? in
+0) ;;
+75)
     echo "share.sh: another run is building the program: this one waits for it" >&2
-    flock 9
-fi
+    flock 9 || exit 2
+    ;;
+*)
+    echo "share.sh: the folder $home cannot be locked" >&2
+    exit 2
+    ;;
+esac
 stands || build
 exec 9<&-
 

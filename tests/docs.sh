@@ -9,9 +9,9 @@ cd "$(dirname "$0")/.." || exit 1
 bad=0
 checked=0
 
-# Whether a name stands in a file as a whole word: beside it are only characters that no name has.
+# Whether a name stands in a file as a whole word, in a line that is no comment and brings in nothing: beside it are only characters that no name has.
 has_word() {
-    LC_ALL=C tr -cs "A-Za-z0-9_'\200-\377-" '\n' <"$2" 2>/dev/null | grep -xF -- "$1" >/dev/null
+    grep -vE '^ *(--|//|#)|^(pub |ghost )?use ' "$2" 2>/dev/null | LC_ALL=C tr -cs "A-Za-z0-9_'\200-\377-" '\n' | grep -xF -- "$1" >/dev/null
 }
 
 for page in README.md docs/*.md; do
@@ -30,7 +30,7 @@ for page in README.md docs/*.md; do
                 bad=1
             fi
         done
-    done < <(grep -oE '`crates/[^` ]*`: `[^`]*`(, `[^`]*`)*' "$page" | sed -E 's/^`([^`]*)`: /\1\t/; s/[`,]//g')
+    done < <(grep -oE '`crates/[^` ]*`: `[^`]*`((,| and) `[^`]*`)*' "$page" | sed -E 's/^`([^`]*)`: /\1\t/; s/` and `/` `/g; s/[`,]//g')
 done
 for example in tests/share/list.in tests/share/list.out; do
     checked=$((checked + 1))
@@ -45,24 +45,29 @@ listed() {
     sed -n "/^## $1\$/,/^## /p" docs/READING.md | sed -nE 's/^\| `(crates[^`]*)` .*/\1/p'
 }
 
-# Holds the files given to a number of lines, and to standing by themselves: every definition of the project that they use is in one of the files before it.
+# Holds files to a number of lines, and to standing by themselves: what they use of the project is a struct or an enum of its code, or stands in one of the
+# files allowed.
 reads() {
-    local least=$1 most=$2 files=$3 all=$4 lines used
+    local least=$1 most=$2 files=$3 allowed=$4 lines
     checked=$((checked + 1))
+    if [ -z "$files" ]; then
+        echo "docs/READING.md lists no files under one of its headings"
+        bad=1
+        return
+    fi
     # shellcheck disable=SC2086
     lines=$(cat $files | grep -vcE '^use |^$')
     if [ "$lines" -lt "$least" ] || [ "$lines" -gt "$most" ]; then
         echo "docs/READING.md lists files of $lines lines together, and says another number"
         bad=1
     fi
-    # shellcheck disable=SC2086
-    used=$(sed -nE 's/^use Rattle·([a-z0-9_]+)(·specs)?\.specs\.([A-Z][A-Za-z]*)\..*/crates\/\1\/specs\/\3.antt/p' $files | sort -u)
     while read -r file; do
-        if ! grep -qx "$file" <<<"$all"; then
+        if ! grep -qxF "$file" <<<"$allowed"; then
             echo "a file that docs/READING.md lists uses $file, which it does not list"
             bad=1
         fi
-    done <<<"$used"
+        # shellcheck disable=SC2086
+    done < <(sed -nE '/\.specs\.declared\./d; s/^use Rattle·([a-z0-9_]+)(·[a-z]+)?\.([a-z]+)\.([A-Za-z0-9]+)\..*/crates\/\1\/\3\/\4.antt/p' $files | sort -u)
 }
 
 calls=$(listed "The calls")
@@ -70,6 +75,15 @@ texts=$(listed "Text and program")
 reads 950 1050 "$calls" "$calls"
 reads 550 650 "$texts" "$calls
 $texts"
+
+# Every law that a crate states has its row.
+for law in $(sed -nE 's/^abbrev pub ([A-Za-z0-9]+) : Type 0$/\1/p' crates/*/specs/Laws.antt crates/*/specs/Theorems.antt); do
+    checked=$((checked + 1))
+    if ! grep -q "^|.*\`$law\`" docs/PROMISES.md; then
+        echo "docs/PROMISES.md has no row for the law $law"
+        bad=1
+    fi
+done
 
 # What a text says of the refusals, by the lines that a substitution gives, with names in one way of writing: NotInColumns becomes NOT_IN_COLUMNS.
 rows() {

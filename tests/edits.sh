@@ -12,7 +12,7 @@ from pathlib import Path
 # A function's head: whether it is public, and its name.
 HEAD = re.compile(r'\s*(pub )?(?:extern "C" )?fn (\w+)')
 # An error with its place, or a note that a contract is not proved: the file, the line, what is said.
-SAID = re.compile(r'(?:note: )?\S*?/((?:src|proofs)/\S+?):(\d+):\d+: (error: .*|it is not proved .*)')
+SAID = re.compile(r'(?:note: )?\S*?/target/must-fail/[^/\s]+/[^/\s]+/((?:src|proofs)/\S+?):(\d+):\d+: (error: .*|it is not proved .*)')
 # The words of an error that comes from another one.
 FROM_ANOTHER = "was not admitted (it has holes or undetermined implicits, or was rejected), so this cannot be checked"
 
@@ -47,6 +47,9 @@ def own(tried):
 
 
 crates = [Path("crates") / name for name in sys.argv[1:]] or sorted(Path("crates").iterdir())
+for crate in crates:
+    if not (crate / "src").is_dir():
+        sys.exit(f"edits.sh: there is no crate {crate.name}")
 every, bare = 0, []
 for crate in crates:
     seen = set()

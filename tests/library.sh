@@ -6,7 +6,7 @@ cd "$(dirname "$0")/.." || exit 1
 bash tests/built.sh || exit 1
 
 home=crates/share_c
-folder=$(mktemp -d)
+folder=$(mktemp -d) || exit 1
 trap 'rm -rf "$folder"' EXIT
 strict="-Wall -Wextra -Werror -pedantic"
 failed=0

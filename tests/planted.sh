@@ -7,7 +7,7 @@ cd "$(dirname "$0")/.." || exit 1
 home=$PWD
 bash tests/built.sh || exit 1
 
-folder=$(mktemp -d)
+folder=$(mktemp -d) || exit 1
 trap 'rm -rf "$folder"' EXIT
 mkdir "$folder/tests"
 cp -r tests/Cargo.toml tests/runs tests/bench "$folder/tests"

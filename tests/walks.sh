@@ -5,7 +5,7 @@ cd "$(dirname "$0")/.." || exit 1
 bad=0
 python3 tools/walks.py --check || bad=1
 
-folder=$(mktemp -d)
+folder=$(mktemp -d) || exit 1
 trap 'rm -rf "$folder"' EXIT
 mkdir "$folder/tools"
 cp tools/walks.py "$folder/tools"

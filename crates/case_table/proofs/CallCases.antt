@@ -219,7 +219,6 @@ clears =
     row "an emptied slot is used again" (held list 40 35 0 3 corrected)
     (submit 1 second 50 1 (minus 5) returns 41 ∷ evaluate 50 1 41 gives 2 rounds (200 ∷ 5 ∷ 0 ∷ 0 ∷ 795 ∷ 7 ∷ []) ∷ [])
     (41 ∷ 35 ∷ 0 ∷ 4 ∷ []) (10 ∷ 5000 ∷ 1000 ∷ 30 ∷ 2780900 ∷ 300 ∷ 40 ∷ 2780900 ∷ 200 ∷ 41 ∷ 5556800 ∷ 5 ∷ 7 ∷ 7 ∷ 7 ∷ []) ∷
-    row "a stamp below P" (held list 40 35 10 3 corrected) (clear 10 34 refused 12 ∷ []) (40 ∷ 35 ∷ 10 ∷ 3 ∷ []) corrected ∷
     row "a stamp below P, and then the same P and K again" (held list 40 35 10 3 corrected) (clear 10 34 refused 12 ∷ clear 10 35 returns 0 ∷ [])
     (40 ∷ 35 ∷ 10 ∷ 3 ∷ []) corrected ∷
     row "kept day 100, and the refusals' order" (fresh list (replicate 12 0))

@@ -38,8 +38,8 @@ group =
 abbrev clear : (day stamp : ℕ) → Verdict
 clear day stamp = clearVerdict 80 group day stamp
 
--- a stamp below P, equal to P, between, equal to the last stamp, above it; a day below K, equal to K, the last one, beyond the calendar; and a day below K
--- with a stamp below P
+-- a stamp below P, equal to P, between, equal to the last stamp, above it; a day below K; a day above K with stamp 0; the last day, and one beyond the
+-- calendar; and a day below K with a stamp below P
 clears : (clear 100 49 ≡ Refused StampOutside)
     × (clear 100 50 ≡ Accepted)
     × (clear 100 51 ≡ Accepted)

@@ -34,13 +34,15 @@ oneWith zeros =
     made 1 1 0 (859182400220162071 ∷ 859182400220162088 ∷ replicate (min 62 zeros) 0) (3 ∷ 0 ∷ replicate (min 62 zeros) 0)
     (1 ∷ replicate (min 63 zeros) 0) (1 ∷ replicate zeros 0) (10000 ∷ replicate zeros 0)
 
--- with no unused number, with a few, and with all
+-- with no unused number
 abbrev one : Registration
 one = oneWith 0
 
+-- with a few
 abbrev few : Registration
 few = oneWith 5
 
+-- with all of them
 abbrev whole : Registration
 whole = oneWith 319
 

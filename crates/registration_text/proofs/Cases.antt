@@ -122,6 +122,7 @@ named =
     row "six producers on one line" ("G   6   1 1\n" ++ d1 ++ d2 ++ d3 ++ d4 ++ d5 ++ "D 859182400220162149 0\n" ++ "O 859182400220162088 0 6   6  1000   5  1000   4  2000   3 10000   2     1   1  3000\n") 3 ∷
     []
 
+-- the texts that name five producers and six get their answers
 names : right named ≡ true
 unfolding bytes g d1 d2 d3 d4 d5 row right named refuse_if_else_ columnOf leadOf valueFrom sameBytes numberIn numbersIn total columnsOf firstLine afterLine every differ sumBelow isCode weighted pairsRight empty widthsOfPairs pairsFrom readText readG readD readO lineIn fixedIn restIn verdictG verdictD verdictO verdictOfAll withPoint withCount withPair withPairs
 names = refl
@@ -129,13 +130,13 @@ names = refl
 -- the G line alone: 64 points at most, and at least one of each kind
 groups : List Row
 groups =
-    row "64 points" "G   1  63 1\n" 0 ∷
-    row "64 points" "G  63   1 0\n" 0 ∷
-    row "64 points" "G  32  32 0\n" 0 ∷
+    row "1 producer and 63 consumers" "G   1  63 1\n" 0 ∷
+    row "63 producers and 1 consumer" "G  63   1 0\n" 0 ∷
+    row "32 producers and 32 consumers" "G  32  32 0\n" 0 ∷
     row "two points" "G   1   1 1\n" 0 ∷
-    row "65 points" "G   1  64 1\n" 3 ∷
-    row "65 points" "G  64   1 0\n" 3 ∷
-    row "65 points" "G  33  32 0\n" 3 ∷
+    row "1 producer and 64 consumers" "G   1  64 1\n" 3 ∷
+    row "64 producers and 1 consumer" "G  64   1 0\n" 3 ∷
+    row "33 producers and 32 consumers" "G  33  32 0\n" 3 ∷
     row "no consumer" "G  64   0 0\n" 3 ∷
     row "no producer" "G   0  64 0\n" 3 ∷
     []
@@ -145,6 +146,7 @@ groupRight : List Row → Bool
 groupRight [] = true
 groupRight (r ∷ rest) = eqb (answerOf (verdictG (lineIn letterG widthsG (bytes (r .text))))) (r .answer) && groupRight rest
 
+-- the G lines get their answers
 group-answers : groupRight groups ≡ true
 unfolding bytes row groups groupRight refuse_if_else_ columnOf leadOf valueFrom sameBytes numberIn numbersIn total lineIn verdictG
 group-answers = refl
@@ -170,11 +172,12 @@ last-line : readText (bytes (g ++ d1 ++ o1 ++ "O 859182400220162095 0 1   1     
 unfolding bytes g d1 o1 zeros refuse_if_else_ columnOf leadOf valueFrom sameBytes numberIn numbersIn total columnsOf firstLine afterLine every differ sumBelow isCode weighted pairsRight empty widthsOfPairs pairsFrom readText readG readD readO lineIn fixedIn restIn verdictG verdictD verdictO verdictOfAll withPoint withCount withPair withPairs
 last-line = refl
 
--- LIST and one byte more, and LIST with keys that sum to 10001: nothing stays of all its lines
+-- LIST and one byte more: nothing stays of all its lines
 extra-text : readText (bytes (list ++ "O")) ≡ record { verdict = Refused NotInColumns; registration = zeros }
 unfolding bytes g d1 o1 o2 list zeros refuse_if_else_ columnOf leadOf valueFrom sameBytes numberIn numbersIn total columnsOf firstLine afterLine every differ sumBelow isCode weighted pairsRight empty widthsOfPairs pairsFrom readText readG readD readO lineIn fixedIn restIn verdictG verdictD verdictO verdictOfAll withPoint withCount withPair withPairs
 extra-text = refl
 
+-- LIST with keys that sum to 10001: nothing stays of all its lines
 keys-above : readText (bytes (g ++ d1 ++ o1 ++ "O 859182400220162095 0 1   1  6001\n")) ≡ record { verdict = Refused KeysAbove; registration = zeros }
 unfolding bytes g d1 o1 zeros refuse_if_else_ columnOf leadOf valueFrom sameBytes numberIn numbersIn total columnsOf firstLine afterLine every differ sumBelow isCode weighted pairsRight empty widthsOfPairs pairsFrom readText readG readD readO lineIn fixedIn restIn verdictG verdictD verdictO verdictOfAll withPoint withCount withPair withPairs
 keys-above = refl

@@ -33,10 +33,12 @@ record Row : Type 0 where
   written : ℕ
   after : List ℕ
 
+-- a row of the table
 row : String → Registration → ℕ → ℕ → ℕ → List ℕ → Row
 row shows registration room answer written after =
     record { shows = shows; registration = registration; room = room; answer = answer; written = written; after = after }
 
+-- buffers that are just long enough, longer and too short, of an undamaged registration and of a damaged one
 rows : List Row
 rows =
     row "an exact buffer" listed 105 0 105 (bytes list) ∷
@@ -62,6 +64,7 @@ right : List Row → Bool
 right [] = true
 right (r ∷ rest) = written-right r && right rest
 
+-- each is answered as its row says, and leaves the buffer that it says
 answers : right rows ≡ true
 unfolding damaged row rows written-right right bytes g d1 o1 o2 list listed refuse_if_else_ columnOf leadOf sameBytes columnsOf every differ sumBelow isCode weighted pairsRight isDamaged widthsOfPairs pairsFrom withPoint textOf linesD linesO verdictOfWriting
 answers = refl
