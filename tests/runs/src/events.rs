@@ -159,7 +159,7 @@ fn submission(random: &mut Random, service: &Service, slots: &Slots) -> Event {
 }
 
 /// A reading one to four weeks before the first of the slots' days, of a point that has none for that day's quarter or
-/// for any of its weeks: alone it makes the substitute.
+/// for any of its weeks: alone it makes the substitute, where the status is 0.
 fn lone(random: &mut Random, kept: &Kept, slots: &Slots) -> Option<Event> {
     let Registration { producers, codes, .. } = kept.service.registration;
     let point = random.place(kept.service.registration.points());
