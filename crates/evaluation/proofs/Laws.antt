@@ -1,6 +1,6 @@
 -- What users of an evaluation rely on: means are nearest, and of the four earlier weeks; results have their size and their parts, their numbers add
 -- up, and how large they are at most. Assumes nothing.
-use Prim.Native.Nat.{ℕ, _+_, _*_, _≤_, _<_}
+use Prim.Native.Nat.{ℕ, _+_, _≤_, _<_}
 use mathlib.Core.Path.{_≡_, refl}
 use mathlib.Core.List.{List}
 use native.Mathlib.Nat.{zero-add}

@@ -1,6 +1,6 @@
 -- What users of the journal rely on. Assumes nothing.
 use Prim.Native.Nat.{ℕ, zero, suc}
-use mathlib.Core.Path.{_≡_, refl, ap, _∙_}
+use mathlib.Core.Path.{_≡_, refl, ap}
 use mathlib.Core.Bool.{true, false, false≢true}
 use mathlib.Core.List.{List}
 use mathlib.Core.Option.{Option, none, some}
@@ -28,11 +28,10 @@ without-minus zero = refl
 without-minus (suc n) = refl
 
 pub magnitude-is : MagnitudeIs
-magnitude-is m n = (λ e. ap natAbs e, λ e. ap natAbs e ∙ without-minus n)
+magnitude-is m n = (λ e. omega (arith, ap natAbs e), λ e. omega (arith, ap natAbs e, without-minus n))
 
 pub same-is-same-magnitude : SameIsSameMagnitude
-same-is-same-magnitude =
-    (λ r value. (eqb-true (r .value .magnitude) (value .magnitude), eq-eqb (r .value .magnitude) (value .magnitude)), λ value. refl)
+same-is-same-magnitude = (λ r value. (λ e. omega (arith, eqb-true), λ e. omega (arith, eq-eqb)), λ value. refl)
 
 -- a reading gives way only to one with a stamp at least as great
 greatest-told : (rs : List Reading) (o : Option Reading) → FindsStrongest rs o → FindsGreatest rs o

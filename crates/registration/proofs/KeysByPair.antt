@@ -1,11 +1,10 @@
 -- A producer's keys summed over all places are those of its pairs: the other places have the number 0. Assumes nothing.
 use Prim.Native.Nat.{ℕ, zero, suc, _+_, _*_, _≤_, _<_}
-use mathlib.Core.Path.{_≡_, refl, subst, sym, _∙_}
-use mathlib.Core.Bool.{true, false, cond}
+use mathlib.Core.Path.{_≡_, refl, _∙_}
+use mathlib.Core.Bool.{true}
 use mathlib.Core.Logic.{⊎-elim}
 use native.Mathlib.Nat.{eq-or-lt-of-le, le-of-suc-le-suc}
 use native.Mathlib.Omega.{arith}
-use lib.Dec.{eqb}
 use lib.ListN.{getD}
 use borrow.Author.Tests.{ne-eqb}
 use Rattle.lists.specs.Below.{sumBelow}

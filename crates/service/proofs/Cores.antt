@@ -19,7 +19,7 @@ use Rattle.allocation.proofs.Laws.{undamaged-is-shareable}
 use Rattle.evaluation.specs.Evaluation.{magnitudesIn}
 use Rattle.journal.specs.Readings.{shown, stampOf}
 use Rattle.journal.specs.Damage.{Right}
-use Rattle.journal.specs.Entries.{Entry}
+use Rattle.journal.specs.Entries.{Entry, keep}
 use Rattle.journal.specs.Stored.{entries, numbers, written}
 use Rattle.journal.proofs.Stored.{length-entries, written-same, put-append}
 use Rattle.journal_clear.specs.Cleared.{JournalCleared}
@@ -29,7 +29,7 @@ use Rattle.group.specs.Group.{Group, readingsFor}
 use Rattle.group.specs.Refusals.{repeats, submissionVerdict, clearVerdict, evaluationVerdict}
 use Rattle.group.specs.Stamps.{nextStamp}
 use Rattle.service.specs.Calls.{entryOf, submitted, cleared, evaluated, step}
-use Rattle.service.specs.Record.{groupOf, stateOf, withState, callOn}
+use Rattle.service.specs.Record.{groupOf, stateOf, withState, emptiedOf, callOn}
 use Rattle.service.specs.Contracts.{Submits, Clears, Evaluates}
 use Rattle.group.specs.Working.{Looks}
 use Rattle.group.proofs.Sound.{Sound}
@@ -50,10 +50,10 @@ state-of s j = λ i. record {
 
 -- and writing its entries again alters nothing
 pub written-again : (s : Service) (j : List ℕ) → 3 * s .state .numbers .entries ≤ length j
-    → written (groupOf s j .entries) (s .state .numbers .entries - length (groupOf s j .entries)) j ≡ j
+    → written (groupOf s j .entries) (emptiedOf (s .state .numbers .entries) (length (groupOf s j .entries))) j ≡ j
 written-again s j h =
     let n = s .state .numbers .entries in
-    let z : n - length (entries n j) ≡ 0 = omega (arith, length-entries n j) in
+    let z : emptiedOf n (length (entries n j)) ≡ 0 = omega (arith, length-entries n j) in
     rw z (written-same n j h)
 
 module _ (s : Service) (j : List ℕ) (clock : ℕ) (m : Measurement) (looked : Looked)
@@ -109,7 +109,7 @@ module _ (s : Service) (j : List ℕ) (clock : ℕ) (m : Measurement) (looked : 
         let n = s .state .numbers .entries in
         let new : Entry = entryOf G (nextStamp clock last) m in
         let grown : length (entries n j ++ (new ∷ [])) ≡ n + 1 = length-append (entries n j) (new ∷ []) ∙ ap (λ (x : ℕ). x + 1) (length-entries n j) in
-        let none : n - length (entries n j ++ (new ∷ [])) ≡ 0 = omega (arith, grown) in
+        let none : emptiedOf n (length (entries n j ++ (new ∷ []))) ≡ 0 = omega (arith, grown) in
         record {
           service = rw (v, r, t, grown, one);
           answers = rw (v, r, a, t);
@@ -136,10 +136,13 @@ module _ (s : Service) (j : List ℕ) (day stamp : ℕ) where
   unfolding callOn step cleared
   clears-accepted verdict count dropped j′ e q c d =
       let v : clearVerdict (s .state .last) (groupOf s j) day stamp ≡ Accepted = sym e ∙ q in
+      let n = s .state .numbers .entries in
+      let es = keep day stamp (entries n j) in
+      let emptied : n - length es ≡ emptiedOf n (length es) = omega arith in
       record {
         service = rw (v, c .number);
-        answers = rw (v, q, d, c .number, length-entries (s .state .numbers .entries) j);
-        journal = rw v (c .journal);
+        answers = rw (v, q, d, c .number, length-entries n j);
+        journal = rw v (c .journal ∙ ap (λ (x : ℕ). written es x j) emptied);
       }
 
 -- ---- an evaluation

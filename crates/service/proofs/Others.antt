@@ -1,5 +1,5 @@
 -- What an accepted submission or clear leaves of the journal's numbers. Assumes nothing.
-use Prim.Native.Nat.{ℕ, _+_, _*_, _-_, _≤_}
+use Prim.Native.Nat.{ℕ, _+_, _*_, _≤_}
 use native.Mathlib.Omega.{arith}
 use mathlib.Core.Path.{_≡_, sym, ap, _∙_}
 use mathlib.Core.Bool.{true, false}
@@ -18,7 +18,7 @@ use Rattle.group.specs.Refusals.{repeats, submissionVerdict, clearVerdict}
 use Rattle.group.specs.Stamps.{nextStamp}
 use Rattle.service.specs.Call.{Submission, Clear, refused}
 use Rattle.service.specs.Calls.{entryOf, submitted, cleared, step}
-use Rattle.service.specs.Record.{groupOf, callOn}
+use Rattle.service.specs.Record.{groupOf, emptiedOf, callOn}
 use Rattle.service.specs.Laws.{SubmissionLeavesOthers, ClearLeavesLater}
 use Rattle.group.proofs.Admitted.{admitted}
 use Rattle.group.proofs.Undamaged.{fits-of}
@@ -59,7 +59,7 @@ module _ (s : Service) (j : List ℕ) (clock : ℕ) (m : Measurement) (e : refus
   appended : repeats last G m ≡ false → callOn s j (Submission clock m) .journal ≡ written more 0 j
   unfolding callOn step submitted
   appended r =
-      let none : count - length more ≡ 0 = omega (arith, more-by-one) in
+      let none : emptiedOf count (length more) ≡ 0 = omega (arith, more-by-one) in
       rw (accepted, r, none)
 
   -- the entry count with an entry more
@@ -95,7 +95,7 @@ module _ (s : Service) (j : List ℕ) (day stamp : ℕ) (e : refused (callOn s j
   few = omega (arith, length-keep day stamp (groupOf s j .entries), length-entries (s .state .numbers .entries) j)
 
   -- the journal that is left, and its entry count
-  left-journal : callOn s j (Clear day stamp) .journal ≡ written kept (s .state .numbers .entries - length kept) j
+  left-journal : callOn s j (Clear day stamp) .journal ≡ written kept (emptiedOf (s .state .numbers .entries) (length kept)) j
   unfolding callOn step cleared
   left-journal = rw clear-accepted
 
@@ -106,7 +106,7 @@ module _ (s : Service) (j : List ℕ) (day stamp : ℕ) (e : refused (callOn s j
 pub clear-leaves-later : ClearLeavesLater
 clear-leaves-later s j day stamp e =
     let es = kept s j day stamp e in
-    let emptied = s .state .numbers .entries - length es in (
+    let emptied = emptiedOf (s .state .numbers .entries) (length es) in (
       λ place h. rw (left-journal s j day stamp e) (later-stay es emptied j place (omega (arith, few s j day stamp e))),
       λ place h l.
           rw (left-journal s j day stamp e)

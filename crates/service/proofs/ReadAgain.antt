@@ -1,5 +1,5 @@
 -- What a call leaves in record and journal is what it leaves of the group that they hold: what is written back is read again. Assumes nothing.
-use Prim.Native.Nat.{ℕ, _-_}
+use Prim.Native.Nat.{ℕ}
 use native.Mathlib.Omega.{arith}
 use mathlib.Core.Path.{_≡_, refl, sym, _∙_}
 use mathlib.Core.List.{List}
@@ -11,7 +11,7 @@ use Rattle.journal.proofs.Stored.{entries-written, length-entries, length-writt
 use Rattle.service.specs.declared.Service.{Service}
 use Rattle.service.specs.Call.{Call, After}
 use Rattle.service.specs.Calls.{step}
-use Rattle.service.specs.Record.{groupOf, Left, writtenBack, callOn}
+use Rattle.service.specs.Record.{groupOf, Left, emptiedOf, writtenBack, callOn}
 use Rattle.service.specs.Laws.{lentBy}
 use Rattle.service.proofs.Leaves.{Fits, Leaves, leaves}
 
@@ -41,7 +41,7 @@ module _ (s : Service) (j : List ℕ) (after : After) where
   through-accepted : Fits (groupOf s j) after → Through s j after (writtenBack Accepted s j after)
   through-accepted f =
       let es = after .group .entries in
-      let emptied = s .state .numbers .entries - length es in
+      let emptied = emptiedOf (s .state .numbers .entries) (length es) in
       let n = length-entries (s .state .numbers .entries) j in
       let l : length (written es emptied j) ≡ length j = length-written es emptied j (omega (arith, n, f .before, f .now)) in
       let r : s .registration ≡ after .group .registration = sym (f .registration) in

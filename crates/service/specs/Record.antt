@@ -53,6 +53,10 @@ pub record Left : Type 0 where
   pub service : Service
   pub journal : List ℕ
 
+-- how many entries are emptied where so many stood and so many are left: none where there are more than before
+abbrev pub emptiedOf : (stood left : ℕ) → ℕ
+emptiedOf stood left = stood - left
+
 -- an accepted call writes the group back, and emptied numbers become 0; a refused one writes nothing
 abbrev pub writtenBack : Verdict → Service → List ℕ → After → Left
 writtenBack (Refused refusal) s j after = record { seen = after .seen; service = s; journal = j }
@@ -60,7 +64,7 @@ writtenBack Accepted s j after =
     record {
       seen = after .seen;
       service = withState s (stateOf (after .last) (after .group));
-      journal = written (after .group .entries) (s .state .numbers .entries - length (after .group .entries)) j;
+      journal = written (after .group .entries) (emptiedOf (s .state .numbers .entries) (length (after .group .entries))) j;
     }
 
 -- a call on record and journal
