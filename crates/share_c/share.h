@@ -156,9 +156,9 @@ struct share_submit_answer share_submit(struct share_service *service, uint64_t 
                                         struct share_measurement measurement);
 
 /*
- * Clears the journal: entries of days below `day` are dropped, and of the others all up to `stamp` but the reading shown at `stamp` for each place. Day
- * and stamp become the kept ones. Gives the number of entries dropped; their room is used again. Record and journal are altered in place.
- * Refused by 15, 9, 11, 12, in this order.
+ * Clears the journal: entries of days below `day` are dropped, and of the others all up to `stamp` but the newest of each code, day and
+ * quarter. Day and stamp become the kept ones. Gives the number of entries dropped; their room is used again. Record and journal are
+ * altered in place. Refused by 15, 9, 11, 12, in this order.
  */
 struct share_clear_answer share_clear(struct share_service *service, uint64_t *journal, size_t journal_length, uint64_t day,
                                       uint64_t stamp);
@@ -166,7 +166,7 @@ struct share_clear_answer share_clear(struct share_service *service, uint64_t *j
 /*
  * Evaluates a quarter hour as of stamp `until`, from the kept stamp to the last one. The result list gets each pair's share (consumers in
  * order, priorities within), then what remains of each withdrawal, then of each supply; later numbers stay. Gives the round count. Two
- * evaluations of one quarter hour as of one stamp give the same, whatever was submitted or cleared between them. Refused by
+ * accepted evaluations of one quarter hour as of one stamp give the same, whatever was submitted or cleared between them. Refused by
  * 15, 9, 11, 12, 16, in this order.
  */
 struct share_evaluate_answer share_evaluate(struct share_service service, const uint64_t *journal, size_t journal_length, uint64_t day,

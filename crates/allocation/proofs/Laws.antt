@@ -1,11 +1,12 @@
 -- What users of the published method rely on: nothing is lost, no share is too great, no offer is left by a consumer that has something left to
 -- withdraw, there are at most five rounds, each list of an allocation has its length, and equal magnitudes have equal results. Assumes nothing.
-use Prim.Native.Nat.{ℕ, zero, suc, _+_, _-_, _*_, _/_, _≤_, _<_}
+use Prim.Native.Nat.{ℕ, zero, suc, _+_, _-_, _*_, _/_, _≤_, _<_, min}
 use mathlib.Core.Path.{_≡_, ap, _∙_}
 use mathlib.Core.Bool.{_&&_}
 use native.Mathlib.Omega.{arith}
 use lib.Dec.{leb, eqb}
 use lib.ListN.{length}
+use borrow.Author.Tests.{eq-eqb, ne-eqb, le-leb, lt-leb}
 use Rattle.lists.proofs.Cases.{by-test}
 use Rattle.lists.proofs.TableLaws.{length-table, table-at, table-same}
 use Rattle.registration.specs.declared.Registration.{Registration}
@@ -16,7 +17,7 @@ use Rattle.registration.proofs.Damage.{undamaged-parts}
 use Rattle.allocation.specs.Rounds.{Remaining, withdrawalAt, supplyAt, roundsOf, shareIn, roundOf, afterRounds, received}
 use Rattle.allocation.specs.Result.{startOf, pairsOf, roundsFor, allocationOf, pairShare}
 use Rattle.allocation.specs.Laws.{UndamagedIsShareable, RoundWithinSupply, SupplyAddsUp, WithdrawalAddsUp, WithinWithdrawal}
-use Rattle.allocation.specs.Laws.{AllocationKeepsSupplies, AllocationKeepsWithdrawals, TurnSharesAll, OneRoundSharesAll, OneRoundWithinKey}
+use Rattle.allocation.specs.Laws.{AllocationKeepsSupplies, AllocationKeepsWithdrawals, TurnSharesAll, EachRoundSharesAll, OneRoundSharesAll, AllocationRounds, OneRoundWithinKey}
 use Rattle.lists.proofs.Sums.{sum-add}
 use Rattle.allocation.proofs.Shareable.{pair-of}
 use Rattle.allocation.proofs.Pairs.{pairs-length, pair-at, of-consumer-same, of-producer-same}
@@ -28,6 +29,22 @@ pub rounds-most : (iteration points consumers : ℕ) → roundsOf iteration poin
 unfolding roundsOf
 rounds-most iteration points consumers =
     by-test (eqb iteration 1 && leb points 50) (λ t. rw t (omega arith)) (λ t. rw t (omega arith))
+
+module _ (r : Registration) where
+  -- with iteration 1 and at most 50 points there are the smaller of 5 and the number of consumers
+  iterated : r .iteration ≡ 1 → r .producers + r .consumers ≤ 50 → roundsFor r ≡ min 5 (r .consumers)
+  unfolding roundsOf
+  iterated i l = rw (eq-eqb (r .iteration) 1 i, le-leb (points r) 50 l) (omega arith)
+
+pub allocation-rounds : AllocationRounds
+unfolding allocationOf roundsOf
+allocation-rounds r magnitude =
+    record {
+      few = λ i l c. omega (arith, iterated r i l);
+      many = λ i l c. omega (arith, iterated r i l);
+      large = λ l. by-test (eqb (r .iteration) 1) (λ t. rw (t, lt-leb (points r) 50 (omega arith))) (λ t. rw t);
+      once = λ n. rw (ne-eqb (r .iteration) 1 n);
+    }
 
 pub undamaged-is-shareable : UndamagedIsShareable
 undamaged-is-shareable r e =
@@ -81,25 +98,36 @@ allocation-keeps-withdrawals r magnitude consumer h =
 pub turn-shares-all : TurnSharesAll
 turn-shares-all r start consumer priority h l rest = omega (arith, round-takes-all r start consumer h priority l rest)
 
--- after one round a pair has received its share of that round
-one-round-shares : (r : Registration) (start : Remaining) (consumer priority : ℕ) → consumer < r .consumers → priority < countAt r consumer
-    → 1 ≤ withdrawalAt (afterRounds r start 1) consumer
-    → received r start 1 consumer priority ≡ keyAt r consumer priority * supplyAt start (sourceAt r consumer priority - 1) / 10000
-unfolding sumBelow afterRounds
-one-round-shares r start consumer priority h l rest = omega (arith, turn-shares-all r start consumer priority h l rest)
+module _ (r : Registration) (start : Remaining) (consumer priority : ℕ) where
+  -- what the key of a pair gives of the supply at a round's start
+  abbrev given : ℕ → ℕ
+  given round = keyAt r consumer priority * supplyAt (afterRounds r start round) (sourceAt r consumer priority - 1) / 10000
+
+  -- a consumer that has something left after so many rounds had something left after each of them
+  each-round-shares : consumer < r .consumers → priority < countAt r consumer → (rounds : ℕ) → 1 ≤ withdrawalAt (afterRounds r start rounds) consumer
+      → received r start rounds consumer priority ≡ sumBelow given rounds
+  unfolding sumBelow afterRounds
+  each-round-shares h l zero rest = omega arith
+  each-round-shares h l (suc rounds) rest =
+      let before = afterRounds r start rounds in
+      omega (arith, turn-shares-all r before consumer priority h l rest, each-round-shares h l rounds (omega (arith, round-keeps-withdrawal r before consumer h)))
+
+pub each-round-shares-all : EachRoundSharesAll
+unfolding allocationOf
+each-round-shares-all r magnitude consumer priority h l rest =
+    pair-received r magnitude consumer priority h l ∙ each-round-shares r (startOf r magnitude) consumer priority h l (roundsFor r) rest
 
 pub one-round-within-key : OneRoundWithinKey
 unfolding sumBelow afterRounds
 one-round-within-key r start consumer priority = omega arith
 
+-- the one round starts with the magnitudes
 pub one-round-shares-all : OneRoundSharesAll
-unfolding allocationOf
+unfolding sumBelow afterRounds
 one-round-shares-all r magnitude s one consumer priority h l rest =
-    let start = startOf r magnitude in
     let source = pair-of s consumer priority h l in
     let supply = table-at magnitude (r .producers) (sourceAt r consumer priority - 1) (omega (arith, source .source-least, source .source-most)) in
-    pair-received r magnitude consumer priority h l
-    ∙ rw (one, ← supply) (one-round-shares r start consumer priority h l (rw one at rest))
+    each-round-shares-all r magnitude consumer priority h l rest ∙ rw (one, supply) (omega arith)
 
 -- what remains has a number for each consumer and each producer, at the start and after each round
 pub remaining-lengths : (r : Registration) (magnitude : ℕ → ℕ) (rounds : ℕ)

@@ -2,13 +2,15 @@
 use Prim.Native.Nat.{ℕ, _+_, _-_, _*_, _/_, _≤_, _<_}
 use mathlib.Core.Path.{_≡_}
 use mathlib.Core.Bool.{false}
+use mathlib.Core.Logic.{_≢_}
 use lib.ListN.{getD}
+use Rattle.lists.specs.Below.{sumBelow}
 use Rattle.registration.specs.declared.Registration.{Registration}
 use Rattle.registration.specs.Rules.{countAt, sourceAt, keyAt}
 use Rattle.registration.specs.Damage.{isDamaged}
 use Rattle.registration.specs.Pairs.{ofConsumer, ofProducer}
 use Rattle.allocation.specs.Rounds.{Remaining, withdrawalAt, supplyAt, shareIn, roundOf, afterRounds, received}
-use Rattle.allocation.specs.Result.{allocationOf, pairShare}
+use Rattle.allocation.specs.Result.{startOf, allocationOf, pairShare}
 use Rattle.allocation.specs.Input.{Shareable}
 
 -- every undamaged registration can be shared by
@@ -59,13 +61,36 @@ TurnSharesAll =
     → 1 ≤ withdrawalAt (roundOf r start) consumer
     → shareIn r start consumer priority ≡ keyAt r consumer priority * supplyAt start (sourceAt r consumer priority - 1) / 10000
 
--- so it is in the numbers of an allocation of one round
+-- so it is in the numbers of an allocation, over all its rounds: where a consumer has something left, each of its pairs has key × supply / 10000 of each
+-- round, the supply being that at the round's start
+abbrev pub EachRoundSharesAll : Type 0
+EachRoundSharesAll =
+    (r : Registration) (magnitude : ℕ → ℕ) (consumer priority : ℕ) → consumer < r .consumers → priority < countAt r consumer
+    → 1 ≤ getD (allocationOf r magnitude .withdrawals) consumer 0
+    → pairShare r (allocationOf r magnitude) consumer priority
+    ≡ sumBelow
+    (λ round. keyAt r consumer priority * supplyAt (afterRounds r (startOf r magnitude) round) (sourceAt r consumer priority - 1) / 10000)
+    (allocationOf r magnitude .rounds)
+
+-- with one round that is key × magnitude / 10000
 abbrev pub OneRoundSharesAll : Type 0
 OneRoundSharesAll =
     (r : Registration) (magnitude : ℕ → ℕ) → Shareable r → allocationOf r magnitude .rounds ≡ 1
     → (consumer priority : ℕ) → consumer < r .consumers → priority < countAt r consumer
     → 1 ≤ getD (allocationOf r magnitude .withdrawals) consumer 0
     → pairShare r (allocationOf r magnitude) consumer priority ≡ keyAt r consumer priority * magnitude (sourceAt r consumer priority - 1) / 10000
+
+-- with iteration 1 and at most 50 points an allocation has as many rounds as there are consumers, but no more than 5; with more points, or another
+-- iteration, it has one
+pub record RoundsAre (r : Registration) (rounds : ℕ) : Type 0 where
+  pub few : r .iteration ≡ 1 → r .producers + r .consumers ≤ 50 → r .consumers ≤ 5 → rounds ≡ r .consumers
+  pub many : r .iteration ≡ 1 → r .producers + r .consumers ≤ 50 → 5 ≤ r .consumers → rounds ≡ 5
+  pub large : 51 ≤ r .producers + r .consumers → rounds ≡ 1
+  pub once : r .iteration ≢ 1 → rounds ≡ 1
+
+-- so it is with every allocation
+abbrev pub AllocationRounds : Type 0
+AllocationRounds = (r : Registration) (magnitude : ℕ → ℕ) → RoundsAre r (allocationOf r magnitude .rounds)
 
 -- with one round no share exceeds key × supply / 10000
 abbrev pub OneRoundWithinKey : Type 0

@@ -262,6 +262,10 @@ evaluations =
     ∷ evaluate 28 5 4 gives 2 rounds (0 ∷ 0 ∷ 0 ∷ 0 ∷ 0 ∷ 7 ∷ []) ∷ [])
     (4 ∷ 0 ∷ 0 ∷ 4 ∷ []) (1 ∷ 2100 ∷ 11 ∷ 2 ∷ 1401 ∷ 22 ∷ 3 ∷ 702 ∷ 33 ∷ 4 ∷ 3 ∷ 44 ∷ []) ∷
     statusRow "status 1" 1 ∷ statusRow "status 2" 2 ∷ statusRow "status 3" 3 ∷
+    row "each point by its own status" (fresh (group 0 1 1 6000) (replicate 9 0))
+    (submit 1 producer 28 1 (plus 1000) returns 1 ∷ submit 2 first 21 1 (minus 1) returns 2 ∷ submit 3 second 21 1 (minus 3) returns 3
+    ∷ evaluate 28 1 3 gives 2 rounds (0 ∷ 3 ∷ 0 ∷ 0 ∷ 997 ∷ 7 ∷ []) ∷ [])
+    (3 ∷ 0 ∷ 0 ∷ 3 ∷ []) (1 ∷ 2800 ∷ 1000 ∷ 2 ∷ 2778000 ∷ 1 ∷ 3 ∷ 5553900 ∷ 3 ∷ []) ∷
     row "28 days before but not 1, not 35, and no other quarter" (fresh list (replicate 12 0))
     (submit 1 producer 28 2 (plus 1000) returns 1 ∷ submit 2 first 27 2 (minus 5) returns 2 ∷ submit 3 first 28 1 (minus 5) returns 3
     ∷ submit 4 first 0 2 (minus 9) returns 4

@@ -33,7 +33,7 @@ use Rattle.service.specs.Calls.{submitted, cleared, evaluated, step}
 use Rattle.service.specs.Record.{callOn}
 use Rattle.event_reader.specs.Events.{submissionIn, clearIn, evaluationIn, eventIn}
 use Rattle.event_writer.specs.Answers.{linesOfConsumer, linesS, linesOfRemaining, linesOfResult}
-use Rattle.event_text.specs.Replies.{replyTo}
+use Rattle.event_calls.specs.Replies.{replyTo}
 use Rattle.event_text.specs.Share.{linesOf, registrationIn, eventsIn, answersTo, openingVerdict, share}
 use Rattle.case_table.specs.Table.{bytes, text, TableHolds}
 

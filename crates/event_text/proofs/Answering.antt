@@ -1,10 +1,9 @@
 -- A line is answered: refused where the buffer is too short, and otherwise by what it asks for. Assumes nothing.
 use Prim.Native.Nat.{ℕ, _≤_, _<_}
-use mathlib.Core.Path.{_≡_, refl, ap, _∙_}
+use mathlib.Core.Path.{_≡_, refl}
 use mathlib.Core.List.{List}
 use native.Mathlib.Omega.{arith}
 use borrow.Author.Tests.{lt-ltb, le-ltb}
-use lib.IntN.{ℤ}
 use lib.ListN.{length}
 use Rattle.answers.specs.declared.Refusal.the-variants.{TooShort}
 use Rattle.answers.specs.declared.Verdict.the-variants.{Accepted, Refused}
@@ -12,11 +11,11 @@ use Rattle.answers.specs.Order.{refuse_if_else_}
 use Rattle.lists.specs.Place.{placed}
 use Rattle.service.specs.declared.Service.{Service}
 use Rattle.event_reader.specs.declared.Event.{Event}
-use Rattle.event_reader.specs.declared.Event.the-variants.{Submission}
 use Rattle.event_reader.specs.Events.{eventIn}
-use Rattle.event_text.specs.declared.Answered.{Answered}
-use Rattle.event_text.specs.Replies.{replyOf, replyTo}
-use Rattle.event_text.specs.Contracts.{answerMost, roomVerdict, Replies, Answers}
+use Rattle.event_calls.specs.declared.Answered.{Answered}
+use Rattle.event_calls.specs.Replies.{replyOf, replyTo}
+use Rattle.event_calls.specs.Contracts.{answerMost, Replies}
+use Rattle.event_text.specs.Contracts.{roomVerdict, Answers}
 use Rattle.event_text.proofs.Fitting.{answer-within}
 
 -- a line was answered, and the answer lies within the buffer
@@ -42,10 +41,3 @@ module _ (s : Service) (j line buffer : List ℕ) where
     pub by-event : (event : Event) → event ≡ eventIn line → Replies Accepted (replyOf s j event) s buffer answered j′ buffer′
         → Done s j line buffer answered j′ buffer′
     by-event event e p = (replied event e p, answer-within s j line buffer answered j′ buffer′ (replied event e p))
-
-    -- a submission, whose value goes through the bits of an i64
-    pub by-submission : (clock code date quarter : ℕ) (value given : ℤ) → given ≡ value → Submission clock code date quarter value ≡ eventIn line
-        → Replies Accepted (replyOf s j (Submission clock code date quarter given)) s buffer answered j′ buffer′
-        → Done s j line buffer answered j′ buffer′
-    by-submission clock code date quarter value given same e p =
-        by-event (Submission clock code date quarter given) (ap (Submission clock code date quarter) same ∙ e) p

@@ -26,11 +26,12 @@ use Rattle.event_reader.specs.declared.Event.{Event}
 use Rattle.event_reader.specs.declared.Event.the-variants.{Submission, Clear, Evaluation, Malformed}
 use Rattle.event_reader.specs.Events.{eventIn}
 use Rattle.event_writer.specs.Answers.{lineA, lineR, bytesOfRounds}
-use Rattle.event_text.specs.declared.Answered.{Answered}
-use Rattle.event_text.specs.Replies.{callOf, refusalText, resultText, evaluationText, replyWith, replyTo}
-use Rattle.event_text.specs.Contracts.{answerMost, roomVerdict, replyIf, Answers}
+use Rattle.event_calls.specs.declared.Answered.{Answered}
+use Rattle.event_calls.specs.Replies.{callOf, refusalText, resultText, evaluationText, replyWith, replyTo}
+use Rattle.event_calls.specs.Contracts.{answerMost}
+use Rattle.event_text.specs.Contracts.{roomVerdict, replyIf, Answers}
 use Rattle.event_writer.proofs.Lengths.{length-of-answer, length-of-rounds, length-of-result}
-use Rattle.event_text.proofs.Sizes.{Small, evaluation-small}
+use Rattle.event_calls.proofs.Sizes.{Small, evaluation-small}
 
 -- an A line
 answer-fits : (answer number : ℕ) → length (lineA answer number) ≤ answerMost

@@ -24,7 +24,7 @@ use Rattle.service.proofs.Cores.{evaluation-asked}
 use Rattle.service.proofs.Returned.{stamp-returned, dropped-returned, rounds-returned, result-returned}
 use Rattle.event_writer.specs.Answers.{widthsA, widthsR, widthsS, widthsOfRemaining}
 use Rattle.event_text.specs.Laws.{ResultFits, NumbersFit}
-use Rattle.event_text.proofs.Sizes.{evaluation-passed}
+use Rattle.event_calls.proofs.Sizes.{evaluation-passed}
 
 -- each column of an answer's line, from what its numbers are below
 fits-A : (answer number : ℕ) → answer < 1000 → number < 1000000000000 → fitting widthsA (answer ∷ number ∷ []) ≡ true

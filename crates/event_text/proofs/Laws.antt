@@ -2,7 +2,7 @@
 -- fit their columns. Assumes nothing.
 use mathlib.Core.Path.{refl}
 use Rattle.event_reader.specs.Events.{eventIn}
-use Rattle.event_text.specs.Replies.{callOf, replyTo}
+use Rattle.event_calls.specs.Replies.{callOf, replyTo}
 use Rattle.event_text.specs.Share.{answersTo, share}
 use Rattle.event_text.specs.Laws.{AnsweredByLines, SharedFromEvents, AnswersFit, PrintsItsCalls, NumbersFit}
 use Rattle.event_text.proofs.Cutting.{lines-first, events-left}

@@ -1,9 +1,7 @@
 pub mod Cutting
 pub mod Walking
 pub mod Opening
-pub mod Sizes
 pub mod Fitting
-pub mod Replying
 pub mod Answering
 pub mod Printing
 pub mod InColumns

@@ -12,7 +12,7 @@ use Rattle.demand3.specs.Demand3.{look, next}
 use Rattle.service.proofs.Laws.{length-stays}
 use Rattle.event_reader.specs.declared.Event.{Event}
 use Rattle.event_reader.specs.Events.{eventIn}
-use Rattle.event_text.specs.Replies.{callOf, refusalText, replyWith, replyTo}
+use Rattle.event_calls.specs.Replies.{callOf, refusalText, replyWith, replyTo}
 use Rattle.event_text.specs.Share.{answersTo}
 use Rattle.event_text.specs.Laws.{withCall, callsIn, lineText, seenLater, printed}
 

@@ -1,6 +1,5 @@
 -- What the code's functions promise, for any record, journal, line and buffer. Assumes nothing.
 use Prim.Native.Nat.{ℕ, _-_}
-use mathlib.Core.Path.{_≡_}
 use mathlib.Core.List.{List, []}
 use lib.ListN.{length, drop}
 use lib.Dec.{ltb}
@@ -8,13 +7,13 @@ use Rattle.answers.specs.declared.Refusal.the-variants.{TooShort}
 use Rattle.answers.specs.declared.Verdict.{Verdict}
 use Rattle.answers.specs.declared.Verdict.the-variants.{Accepted, Refused}
 use Rattle.answers.specs.Order.{refuse_if_else_}
-use Rattle.lists.specs.Place.{placed}
 use Rattle.lines.specs.Line.{afterLine}
 use Rattle.service.specs.declared.Service.{Service}
-use Rattle.service.specs.Record.{freshService, zeroService, withState}
+use Rattle.service.specs.Record.{freshService, zeroService}
+use Rattle.event_calls.specs.declared.Answered.{Answered}
+use Rattle.event_calls.specs.Replies.{Reply, noCall, replyTo}
+use Rattle.event_calls.specs.Contracts.{answerMost, Replies}
 use Rattle.event_text.specs.declared.Opened.{Opened}
-use Rattle.event_text.specs.declared.Answered.{Answered}
-use Rattle.event_text.specs.Replies.{Reply, noCall, replyTo}
 use Rattle.event_text.specs.Share.{linesOf, registrationIn, registrationOf, openingVerdict}
 
 -- the opening of an input: the verdict; a fresh service and where its events begin, zeros where it is refused
@@ -35,10 +34,6 @@ openedOf input = openedIf (openingVerdict input) input
 abbrev pub lineEnd : (input : List ℕ) → (at : ℕ) → ℕ
 lineEnd input at = length input - length (afterLine (drop at input))
 
--- no answer to a line has more bytes: an R line, 5 S lines for each of 63 consumers, a U or V line for each of 64 points
-abbrev pub answerMost : ℕ
-answerMost = 7332
-
 -- answering a line is refused by 16 where the buffer may be too short for the answer
 unfoldable pub roomVerdict : (buffer : List ℕ) → Verdict
 roomVerdict buffer =
@@ -49,14 +44,6 @@ roomVerdict buffer =
 abbrev pub replyIf : Verdict → Service → (journal line : List ℕ) → Reply
 replyIf Accepted s j line = replyTo s j line
 replyIf (Refused refusal) s j line = noCall s j []
-
--- a line was answered: the verdict on answering it, record and journal, the number of bytes written, and the buffer, whose later bytes stay
-pub record Replies (given : Verdict) (reply : Reply) (s : Service) (buffer : List ℕ) (answered : Answered) (journal′ buffer′ : List ℕ) : Type 0 where
-  pub verdict : answered .verdict ≡ given
-  pub service : withState s (answered .state) ≡ reply .service
-  pub journal : journal′ ≡ reply .journal
-  pub bytes : answered .bytes ≡ length (reply .bytes)
-  pub out : buffer′ ≡ placed 0 (reply .bytes) buffer
 
 -- the line of an input was answered, or refused with nothing altered
 abbrev pub Answers : Service → (journal line buffer : List ℕ) → Answered → (journal′ buffer′ : List ℕ) → Type 0

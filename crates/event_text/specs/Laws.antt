@@ -21,9 +21,10 @@ use Rattle.demand3.specs.Demand3.{seenOf}
 use Rattle.event_reader.specs.declared.Event.{Event}
 use Rattle.event_reader.specs.Events.{eventIn}
 use Rattle.event_writer.specs.Answers.{widthsA, widthsR, widthsS, widthsOfRemaining}
-use Rattle.event_text.specs.Replies.{callOf, callText, refusalText, replyTo}
+use Rattle.event_calls.specs.Replies.{callOf, callText, refusalText, replyTo}
 use Rattle.event_text.specs.Share.{linesOf, eventsIn, registrationOf, answersTo, journalNumbers, openingVerdict, share}
-use Rattle.event_text.specs.Contracts.{openedOf, answerMost}
+use Rattle.event_calls.specs.Contracts.{answerMost}
+use Rattle.event_text.specs.Contracts.{openedOf}
 
 -- ---- the program's loop
 
@@ -75,7 +76,7 @@ printed r [] seen = []
 printed r (line ∷ lines) seen =
     lineText r (eventIn line) (callOf (eventIn line)) seen ++ printed r lines (seenLater (callOf (eventIn line)) seen)
 
--- what the program writes is what demand 3 speaks of: the answers of its calls, made on a fresh service in turn
+-- what `share` gives is what demand 3 speaks of: the answers of its calls, made on a fresh service in turn
 abbrev pub PrintsItsCalls : Type 0
 PrintsItsCalls =
     (input : List ℕ) → openingVerdict input ≡ Accepted

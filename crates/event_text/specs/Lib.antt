@@ -1,4 +1,3 @@
-pub mod Replies
 pub mod Share
 pub mod Contracts
 pub mod Laws

@@ -15,7 +15,7 @@ use Rattle.service.specs.declared.Service.{Service}
 use Rattle.service.specs.Record.{freshService}
 use Rattle.event_reader.specs.Events.{letterM, letterC, letterE, letterOf}
 use Rattle.event_writer.specs.Answers.{lineA}
-use Rattle.event_text.specs.Replies.{replyTo}
+use Rattle.event_calls.specs.Replies.{replyTo}
 
 -- ---- the lines of a text
 

@@ -10,30 +10,20 @@ ghost use Rattle.event_text.specs.Share.{linesOf, isEvent, registrationI
 ghost use Rattle.event_text.specs.Contracts.{openedIf, openedOf, lineEnd, Answers};
 use answers::Refusal;
 use answers::Verdict;
-use event_reader::Event;
+use event_calls::Answered;
 use service::Service;
-use service::State;
-
-mod calls;
 
 // The most bytes of an input.
 pub const INPUT_MOST: usize = 32768;
 
 // No answer to a line has more bytes than this.
-pub const ANSWER_MOST: usize = 7332;
+pub const ANSWER_MOST: usize = event_calls::ANSWER_MOST;
 
 // What opening an input gives: a fresh service, and where the events begin; zeros where the registration is refused.
 pub struct Opened {
     pub verdict: Verdict,
     pub service: Service,
     pub events: usize,
-}
-
-// What answering a line gives: the record's changing part after it, and how many bytes were written.
-pub struct Answered {
-    pub verdict: Verdict,
-    pub state: State,
-    pub bytes: usize,
 }
 
 // Whether a line that begins with this byte is an event's.
@@ -101,7 +91,7 @@ pub fn refusal_line(refusal: Refusal) -> [u8; event_writer::ANSWER_BYTES]
     ensures { λ r. ⌜ (r ≡ lineA (numberOf refusal) 0) × (bytesOfAnswer ≡ length r) ⌝ }
 {
     let mut line = [0; event_writer::ANSWER_BYTES];
-    calls::put_refusal(&mut line, refusal);
+    event_calls::put_refusal(&mut line, refusal);
     line
 }
 
@@ -129,20 +119,6 @@ pub fn answer(service: Service, journal: &mut [u64], line: &[u8], out: &mut [u8]
             bytes: 0,
         };
     }
-    match event_reader::read(line) {
-        Event::Submission {
-            clock,
-            code,
-            date,
-            quarter,
-            value,
-        } => calls::submission(service, journal, clock, code, date, quarter, value, out),
-        Event::Clear { date, stamp } => calls::clear(service, journal, date, stamp, out),
-        Event::Evaluation {
-            date,
-            quarter,
-            until,
-        } => calls::evaluation(service, journal, date, quarter, until, out),
-        Event::Malformed => calls::no_call(service.state, out, Refusal::NotInColumns),
-    }
+    let event = event_reader::read(line);
+    event_calls::reply(service, journal, event, out)
 }

@@ -13,10 +13,11 @@ use Rattle.lines.proofs.Laws.{line-part, rest-part}
 use Rattle.service.specs.declared.Service.{Service}
 use Rattle.service.specs.Record.{withState}
 use Rattle.event_text.specs.declared.Opened.{Opened}
-use Rattle.event_text.specs.declared.Answered.{Answered}
-use Rattle.event_text.specs.Replies.{replyTo}
+use Rattle.event_calls.specs.declared.Answered.{Answered}
+use Rattle.event_calls.specs.Replies.{replyTo}
 use Rattle.event_text.specs.Share.{linesOf, answersTo, openingVerdict, share}
-use Rattle.event_text.specs.Contracts.{answerMost, openedIf, openedOf, lineEnd, roomVerdict, Answers}
+use Rattle.event_calls.specs.Contracts.{answerMost}
+use Rattle.event_text.specs.Contracts.{openedIf, openedOf, lineEnd, roomVerdict, Answers}
 use Rattle.event_text.proofs.Cutting.{lines-none}
 use Rattle.event_text.proofs.Walking.{line-ends}
 use Rattle.event_text.proofs.Laws.{answered-by-lines, shared-from-events}

@@ -6,7 +6,7 @@ use native.Mathlib.Omega.{arith}
 use borrow.Author.Needs.{needs}
 use lib.ListN.{length, length-replicate}
 use lib.Seq.{length-take-le}
-use Rattle.event_text.specs.Contracts.{answerMost}
+use Rattle.event_calls.specs.Contracts.{answerMost}
 use Rattle.share.proofs.Written.{Written}
 use Rattle.share.proofs.Turns.{nothing-written, one-more}
 use Rattle.share.proofs.answer_lines.Statement.{statement}

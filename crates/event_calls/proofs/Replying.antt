@@ -33,9 +33,9 @@ use Rattle.event_reader.specs.declared.Event.{Event}
 use Rattle.event_reader.specs.declared.Event.the-variants.{Submission, Clear, Evaluation}
 use Rattle.event_writer.specs.Answers.{lineA, lineR, bytesOfRounds, linesOfResult}
 use Rattle.event_writer.proofs.Lengths.{length-of-rounds}
-use Rattle.event_text.specs.declared.Answered.{Answered}
-use Rattle.event_text.specs.Replies.{onDay, measured, callOf, refusalText, answerText, resultText, evaluationText, callText, resultList, replyOf}
-use Rattle.event_text.specs.Contracts.{Replies}
+use Rattle.event_calls.specs.declared.Answered.{Answered}
+use Rattle.event_calls.specs.Replies.{onDay, measured, callOf, refusalText, answerText, resultText, evaluationText, callText, resultList, replyOf}
+use Rattle.event_calls.specs.Contracts.{Replies}
 use Rattle.service.proofs.Evaluating.{evaluation-alters-nothing}
 
 -- ---- the lines that are put
@@ -163,3 +163,17 @@ module _ (s : Service) (j : List ℕ) {d : Day} (date : ℕ) {day : ℕ} (told :
       replies-accepted-evaluation e h p q k =
           let put = accepted-put (s .registration) (seenAt s j day quarter T) (rw (made .answers) at e) h (rw (a, made .answers) at p) (rw (made .result) at q) in
           replies-evaluation put k
+
+-- ---- the reply to an event that is known
+
+module _ (s : Service) (j buffer : List ℕ) (answered : Answered) (j′ buffer′ : List ℕ) where
+  pub by-event : (event known : Event) → event ≡ known → Replies Accepted (replyOf s j known) s buffer answered j′ buffer′
+      → Replies Accepted (replyOf s j event) s buffer answered j′ buffer′
+  by-event event known e p = rw e p
+
+  -- a submission, whose value goes through the bits of an i64
+  pub by-submission : (event : Event) (clock code date quarter : ℕ) (value given : ℤ) → given ≡ value → event ≡ Submission clock code date quarter value
+      → Replies Accepted (replyOf s j (Submission clock code date quarter given)) s buffer answered j′ buffer′
+      → Replies Accepted (replyOf s j event) s buffer answered j′ buffer′
+  by-submission event clock code date quarter value given same e p =
+      by-event event (Submission clock code date quarter given) (e ∙ ap (Submission clock code date quarter) (sym same)) p

@@ -1,4 +1,4 @@
-// The calls that lines ask for: 9 for the date, then the call's own order, and the answer written to the front of a buffer.
+// The calls that events ask for: 9 for the date, then the call's own order, and the answer written to the front of a buffer.
 ghost use mathlib.Core.Path.{_≡_};
 ghost use Prim.Native.Nat.{_≤_};
 ghost use lib.ListN.{length};
@@ -7,15 +7,25 @@ ghost use Rattle.answers.specs.Numbers.{numberOf};
 ghost use Rattle.lists.specs.Place.{Put};
 ghost use Rattle.event_reader.specs.declared.Event.the-variants.{Submission as SubmissionLine, Clear as ClearLine, Evaluation as EvaluationLine};
 ghost use Rattle.event_writer.specs.Answers.{lineA, bytesOfAnswer};
-ghost use Rattle.event_text.specs.Replies.{replyOf};
-ghost use Rattle.event_text.specs.Contracts.{answerMost, Replies};
-use super::Answered;
+ghost use Rattle.event_calls.specs.Replies.{replyOf};
+ghost use Rattle.event_calls.specs.Contracts.{answerMost, Replies};
 use answers::Refusal;
 use answers::Verdict;
 use calendar::Day;
+use event_reader::Event;
 use service::Service;
 use service::State;
 use values::Measurement;
+
+// No answer has more bytes than this.
+pub const ANSWER_MOST: usize = 7332;
+
+// What answering a line gives: the record's changing part after it, and how many bytes were written.
+pub struct Answered {
+    pub verdict: Verdict,
+    pub state: State,
+    pub bytes: usize,
+}
 
 // Puts the A line of a refusal to the front of a buffer.
 pub fn put_refusal(out: &mut [u8], refusal: Refusal) -> usize
@@ -26,7 +36,7 @@ pub fn put_refusal(out: &mut [u8], refusal: Refusal) -> usize
 }
 
 // A line that was answered.
-pub fn answered(state: State, bytes: usize) -> Answered
+fn with_bytes(state: State, bytes: usize) -> Answered
     ensures { λ r. ⌜ r ≡ record { verdict = AcceptedCall; state = state; bytes = bytes } ⌝ }
 {
     Answered {
@@ -37,16 +47,16 @@ pub fn answered(state: State, bytes: usize) -> Answered
 }
 
 // A line that asks for no call: its refusal is written, and nothing is altered.
-pub fn no_call(state: State, out: &mut [u8], refusal: Refusal) -> Answered
+fn no_call(state: State, out: &mut [u8], refusal: Refusal) -> Answered
     requires { ⌜ bytesOfAnswer ≤ length (now out) ⌝ }
     ensures { λ r. ⌜ Put 0 (lineA (numberOf refusal) 0) (now (out .entry)) (now (out .exit)) (r .bytes) × (r ≡ record { verdict = AcceptedCall; state = state; bytes = r .bytes }) ⌝ }
 {
     let bytes = put_refusal(out, refusal);
-    answered(state, bytes)
+    with_bytes(state, bytes)
 }
 
 // Answers a submission.
-pub fn submission(
+fn submission(
     service: Service,
     journal: &mut [u64],
     clock: u64,
@@ -73,17 +83,11 @@ pub fn submission(
     let submitted = step.submitted;
     let verdict = submitted.verdict;
     let bytes = event_writer::put_answer(out, 0, verdict.answer(), submitted.stamp);
-    answered(state, bytes)
+    with_bytes(state, bytes)
 }
 
 // Answers a clear.
-pub fn clear(
-    service: Service,
-    journal: &mut [u64],
-    date: u64,
-    stamp: u64,
-    out: &mut [u8],
-) -> Answered
+fn clear(service: Service, journal: &mut [u64], date: u64, stamp: u64, out: &mut [u8]) -> Answered
     requires { ⌜ answerMost ≤ length (now out) ⌝ }
     ensures { λ r. ⌜ Replies AcceptedCall (replyOf service (now (journal .entry)) (ClearLine date stamp)) service (now (out .entry)) r (now (journal .exit)) (now (out .exit)) ⌝ }
 {
@@ -95,11 +99,11 @@ pub fn clear(
     let cleared = step.cleared;
     let verdict = cleared.verdict;
     let bytes = event_writer::put_answer(out, 0, verdict.answer(), cleared.dropped as u64);
-    answered(state, bytes)
+    with_bytes(state, bytes)
 }
 
 // Answers an evaluation, which alters neither record nor journal.
-pub fn evaluation(
+fn evaluation(
     service: Service,
     journal: &[u64],
     date: u64,
@@ -114,16 +118,39 @@ pub fn evaluation(
     let Day::Is(day) = calendar::day_of(date) else {
         let refusal = Refusal::NoSuchDay;
         let bytes = event_writer::put_rounds(out, 0, refusal.number(), 0);
-        return answered(state, bytes);
+        return with_bytes(state, bytes);
     };
     let mut numbers = [0; evaluation::RESULT_MOST];
     let evaluated = service.evaluate(journal, day, quarter, until, &mut numbers);
     let verdict = evaluated.verdict;
     let at = event_writer::put_rounds(out, 0, verdict.answer(), evaluated.rounds as u64);
     if let Verdict::Refused(refusal) = verdict {
-        return answered(state, at);
+        return with_bytes(state, at);
     }
     let registration = service.registration;
     let bytes = event_writer::put_result(out, at, registration, &numbers);
-    answered(state, bytes)
+    with_bytes(state, bytes)
+}
+
+// Answers an event: makes the call that it asks for on record and journal, and writes its answer to the front of a buffer.
+pub fn reply(service: Service, journal: &mut [u64], event: Event, out: &mut [u8]) -> Answered
+    requires { ⌜ answerMost ≤ length (now out) ⌝ }
+    ensures { λ r. ⌜ Replies AcceptedCall (replyOf service (now (journal .entry)) event) service (now (out .entry)) r (now (journal .exit)) (now (out .exit)) ⌝ }
+{
+    match event {
+        Event::Submission {
+            clock,
+            code,
+            date,
+            quarter,
+            value,
+        } => submission(service, journal, clock, code, date, quarter, value, out),
+        Event::Clear { date, stamp } => clear(service, journal, date, stamp, out),
+        Event::Evaluation {
+            date,
+            quarter,
+            until,
+        } => evaluation(service, journal, date, quarter, until, out),
+        Event::Malformed => no_call(service.state, out, Refusal::NotInColumns),
+    }
 }

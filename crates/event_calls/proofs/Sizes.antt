@@ -24,7 +24,7 @@ use Rattle.service.proofs.ReadAgain.{through}
 use Rattle.service.proofs.Accepted.{accepted-verdict}
 use Rattle.service.proofs.Cores.{evaluation-sound}
 use Rattle.event_writer.specs.Answers.{bytesOfRounds, bytesOfResult}
-use Rattle.event_text.specs.Contracts.{answerMost}
+use Rattle.event_calls.specs.Contracts.{answerMost}
 
 -- the numbers and bytes of a group's results are within what they are given room for
 pub record Small (r : Registration) : Type 0 where

@@ -1,11 +1,11 @@
--- `event_text::calls::put_refusal` meets its contract. Assumes nothing.
+-- `event_calls::put_refusal` meets its contract. Assumes nothing.
 use Prim.Native.Nat.{ℕ}
 use mathlib.Core.Path.{ap}
 use borrow.Author.Needs.{needs}
 use Rattle.event_writer.specs.Answers.{lineA}
-use Rattle.event_text.proofs.Replying.{put-same}
-use Rattle.event_text.proofs.calls.put_refusal.Statement.{statement}
-use Rattle.event_text.proofs.calls.put_refusal.Tie as tie
+use Rattle.event_calls.proofs.Replying.{put-same}
+use Rattle.event_calls.proofs.put_refusal.Statement.{statement}
+use Rattle.event_calls.proofs.put_refusal.Tie as tie
 
 number-requires : tie.Need-number-requires
 number-requires c κs = search needs

@@ -1,16 +1,16 @@
--- `event_text::calls::evaluation` meets its contract. Assumes nothing.
+-- `event_calls::evaluation` meets its contract. Assumes nothing.
 use Prim.Native.Nat.{ℕ}
 use mathlib.Core.Path.{ap}
 use native.Mathlib.Omega.{arith}
 use Rattle.service.specs.Call.{Evaluation as Evaluate}
 use Rattle.event_reader.specs.declared.Event.the-variants.{Evaluation}
 use Rattle.event_writer.specs.Answers.{lineR}
-use Rattle.event_text.specs.Replies.{resultList}
-use Rattle.event_text.proofs.Sizes.{evaluates-small}
-use Rattle.event_text.proofs.Replying.{put-same, rounds-end, no-call, replies-refusal, replies-refused-evaluation, replies-accepted-evaluation}
+use Rattle.event_calls.specs.Replies.{resultList}
+use Rattle.event_calls.proofs.Sizes.{evaluates-small}
+use Rattle.event_calls.proofs.Replying.{put-same, rounds-end, no-call, replies-refusal, replies-refused-evaluation, replies-accepted-evaluation}
 use borrow.Author.Needs.{needs}
-use Rattle.event_text.proofs.calls.evaluation.Statement.{statement}
-use Rattle.event_text.proofs.calls.evaluation.Tie as tie
+use Rattle.event_calls.proofs.evaluation.Statement.{statement}
+use Rattle.event_calls.proofs.evaluation.Tie as tie
 
 day-of-requires : tie.Need-day-of-requires
 day-of-requires c κs = search needs
@@ -27,8 +27,8 @@ number-requires c κs = search needs
 put-rounds-requires : tie.Need-put-rounds-requires
 put-rounds-requires c κs = search needs
 
-answered-requires : tie.Need-answered-requires
-answered-requires c κs = search needs
+with-bytes-requires : tie.Need-with-bytes-requires
+with-bytes-requires c κs = search needs
 
 same-length : tie.Need-same-length
 same-length c = search needs
@@ -42,7 +42,7 @@ returns c =
     let a = day .before .before .before .before .args in
     let none = no-call (a .date) (λ (day : ℕ). Evaluate day (a .quarter) (a .until) resultList) (day .day-of .ensures) (told .enum-told .given .1) in
     let line = put-same (ap (λ (answer : ℕ). lineR answer 0) (number .number .ensures)) (put .put-rounds .ensures) in
-    replies-refusal _ _ (Evaluation (a .date) (a .quarter) (a .until)) none line (c .answered .ensures)
+    replies-refusal _ _ (Evaluation (a .date) (a .quarter) (a .until)) none line (c .with-bytes .ensures)
 
 slice-aggregate-evaluate : tie.Need-slice-aggregate-evaluate
 slice-aggregate-evaluate c = search needs
@@ -59,8 +59,8 @@ put-rounds-requires-2 c κs = search needs
 enum-known-verdict : tie.Need-enum-known-verdict
 enum-known-verdict c = search needs
 
-answered-requires-2 : tie.Need-answered-requires-2
-answered-requires-2 c κs = search needs
+with-bytes-requires-2 : tie.Need-with-bytes-requires-2
+with-bytes-requires-2 c κs = search needs
 
 same-length-2 : tie.Need-same-length-2
 same-length-2 c = search needs
@@ -74,7 +74,7 @@ returns-2 c =
     let day = is .before .before in
     let a = day .before .before .before .before .args in
     replies-refused-evaluation _ _ (a .date) (day .day-of .ensures) (is .day .given .1) _ _ _ _ (made .evaluate .ensures) (put .before .answer .ensures)
-    _ (refused .verdict .given .1) (put .put-rounds2 .ensures) (c .answered2 .ensures)
+    _ (refused .verdict .given .1) (put .put-rounds2 .ensures) (c .with-bytes2 .ensures)
 
 enum-told-2 : tie.Need-enum-told-2
 enum-told-2 c = search needs
@@ -92,8 +92,8 @@ put-result-requires c κs =
     let end = rounds-end _ _ (put .put-rounds2 .ensures) in
     (k .points, (k .counts, (omega (arith, k .size, made .evaluate .kept), omega (arith, k .bytes, put .put-rounds2 .kept, end, room))))
 
-answered-requires-3 : tie.Need-answered-requires-3
-answered-requires-3 c κs = search needs
+with-bytes-requires-3 : tie.Need-with-bytes-requires-3
+with-bytes-requires-3 c κs = search needs
 
 same-length-3 : tie.Need-same-length-3
 same-length-3 c = search needs
@@ -109,7 +109,7 @@ returns-3 c =
     let start = day .before .before .before .before in
     let room = start .pre in
     replies-accepted-evaluation _ _ (start .args .date) (day .day-of .ensures) (is .day .given .1) _ _ _ _ (made .evaluate .ensures) (put .before .answer .ensures)
-    (told .enum-told2 .given .1) (omega (arith, room)) (put .put-rounds2 .ensures) (result .put-result .ensures) (c .answered3 .ensures)
+    (told .enum-told2 .given .1) (omega (arith, room)) (put .put-rounds2 .ensures) (result .put-result .ensures) (c .with-bytes3 .ensures)
 
 pub evaluation-spec : {M : Type 1} → statement M
 evaluation-spec =
@@ -120,7 +120,7 @@ evaluation-spec =
     enum-told
     number-requires
     put-rounds-requires
-    answered-requires
+    with-bytes-requires
     same-length
     returns
     slice-aggregate-evaluate
@@ -128,12 +128,12 @@ evaluation-spec =
     answer-requires
     put-rounds-requires-2
     enum-known-verdict
-    answered-requires-2
+    with-bytes-requires-2
     same-length-2
     returns-2
     enum-told-2
     slice-aggregate-put-result
     put-result-requires
-    answered-requires-3
+    with-bytes-requires-3
     same-length-3
     returns-3)

@@ -1,11 +1,12 @@
--- `event_text::calls::clear` meets its contract. Assumes nothing.
+-- `event_calls::submission` meets its contract. Assumes nothing.
 use Prim.Native.Nat.{ℕ}
-use Rattle.service.specs.Call.{Clear as ClearUp}
-use Rattle.event_reader.specs.declared.Event.the-variants.{Clear}
-use Rattle.event_text.proofs.Replying.{no-call, replies-refusal, replies-clear}
+use Rattle.service.specs.Call.{Submission as Submit}
+use Rattle.event_reader.specs.declared.Event.the-variants.{Submission}
+use Rattle.event_calls.specs.Replies.{measured}
+use Rattle.event_calls.proofs.Replying.{no-call, replies-refusal, replies-submission}
 use borrow.Author.Needs.{needs}
-use Rattle.event_text.proofs.calls.clear.Statement.{statement}
-use Rattle.event_text.proofs.calls.clear.Tie as tie
+use Rattle.event_calls.proofs.submission.Statement.{statement}
+use Rattle.event_calls.proofs.submission.Tie as tie
 
 day-of-requires : tie.Need-day-of-requires
 day-of-requires c κs = search needs
@@ -28,11 +29,11 @@ returns c =
     let told = put .before .before in
     let day = told .before .before in
     let a = day .before .before .before .args in
-    let none = no-call (a .date) (λ (day : ℕ). ClearUp day (a .stamp)) (day .day-of .ensures) (told .enum-told .given .1) in
-    replies-refusal _ _ (Clear (a .date) (a .stamp)) none (put .no-call .ensures .0) (put .no-call .ensures .1)
+    let none = no-call (a .date) (λ (day : ℕ). Submit (a .clock) (measured (a .code) (a .quarter) (a .value) day)) (day .day-of .ensures) (told .enum-told .given .1) in
+    replies-refusal _ _ (Submission (a .clock) (a .code) (a .date) (a .quarter) (a .value)) none (put .no-call .ensures .0) (put .no-call .ensures .1)
 
-clear-requires : tie.Need-clear-requires
-clear-requires c κs = search needs
+submit-requires : tie.Need-submit-requires
+submit-requires c κs = search needs
 
 answer-requires : tie.Need-answer-requires
 answer-requires c κs = search needs
@@ -40,8 +41,8 @@ answer-requires c κs = search needs
 put-answer-requires : tie.Need-put-answer-requires
 put-answer-requires c κs = search needs
 
-answered-requires : tie.Need-answered-requires
-answered-requires c κs = search needs
+with-bytes-requires : tie.Need-with-bytes-requires
+with-bytes-requires c κs = search needs
 
 same-length-2 : tie.Need-same-length-2
 same-length-2 c = search needs
@@ -55,12 +56,13 @@ returns-2 c =
     let made = put .before .before .before .before .before .before .before in
     let is = made .before .before .before in
     let day = is .before .before in
-    let a = day .before .before .before .args in
-    replies-clear _ _ (a .date) (day .day-of .ensures) (is .day .given .1) _ _ _ (made .clear .ensures)
-    (put .before .answer .ensures) (put .put-answer .ensures) (c .answered .ensures)
+    let start = day .before .before .before in
+    let a = start .args in
+    replies-submission _ _ (a .date) (day .day-of .ensures) (is .day .given .1) _ _ _ _ _ _ (start .fits .value) (made .submit .ensures)
+    (put .before .answer .ensures) (put .put-answer .ensures) (c .with-bytes .ensures)
 
-pub clear-spec : {M : Type 1} → statement M
-clear-spec =
+pub submission-spec : {M : Type 1} → statement M
+submission-spec =
     tie.close
     (tie.spec
     day-of-requires
@@ -69,10 +71,10 @@ clear-spec =
     no-call-requires
     same-length
     returns
-    clear-requires
+    submit-requires
     answer-requires
     put-answer-requires
-    answered-requires
+    with-bytes-requires
     same-length-2
     same-length-3
     returns-2)
