@@ -1,8 +1,7 @@
 -- `allocation::rounds` meets its contract: iteration and points decide, then the smaller of 5 and the consumers. Assumes nothing.
 use native.Mathlib.Omega.{arith}
-use native.Mathlib.Nat.{min-eq-left, min-eq-right}
 use borrow.Author.Tests.{eq-eqb, ne-eqb, le-leb, lt-leb}
-use Rattle.allocation.specs.Rounds.{roundsMost, roundsOf}
+use Rattle.allocation.specs.Rounds.{roundsOf}
 use Rattle.allocation.proofs.rounds.Statement.{statement}
 use Rattle.allocation.proofs.rounds.Tie as tie
 
@@ -20,13 +19,13 @@ returns-3 : tie.Need-returns-3
 unfolding roundsOf
 returns-3 c =
     let a = c .before .before .before .args in
-    rw (eq-eqb (a .iteration) 1 (omega arith), le-leb (a .points) 50 (omega arith), min-eq-right {n = a .consumers} {m = roundsMost} (omega arith))
+    rw (eq-eqb (a .iteration) 1 (omega arith), le-leb (a .points) 50 (omega arith)) (omega arith)
 
 returns-4 : tie.Need-returns-4
 unfolding roundsOf
 returns-4 c =
     let a = c .before .before .before .args in
-    rw (eq-eqb (a .iteration) 1 (omega arith), le-leb (a .points) 50 (omega arith), min-eq-left {n = roundsMost} {m = a .consumers} (omega arith))
+    rw (eq-eqb (a .iteration) 1 (omega arith), le-leb (a .points) 50 (omega arith)) (omega arith)
 
 pub rounds-spec : {M : Type 1} → statement M
 rounds-spec = tie.close (tie.spec returns returns-2 returns-3 returns-4)
