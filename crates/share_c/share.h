@@ -156,9 +156,9 @@ struct share_submit_answer share_submit(struct share_service *service, uint64_t 
                                         struct share_measurement measurement);
 
 /*
- * Clears the journal: entries of days below `day` are dropped, and of the others all up to `stamp` but the newest of each code, day and
- * quarter. Day and stamp become the kept ones. Gives the number of entries dropped; their room is used again. Record and journal are
- * altered in place. Refused by 15, 9, 11, 12, in this order.
+ * Clears the journal: entries of days below `day` are dropped, and of the others, among those up to `stamp`, all but the newest for each
+ * code, day and quarter; later ones stay. Day and stamp become the kept ones. Gives the number of entries dropped; their room is used
+ * again. Record and journal are altered in place. Refused by 15, 9, 11, 12, in this order.
  */
 struct share_clear_answer share_clear(struct share_service *service, uint64_t *journal, size_t journal_length, uint64_t day,
                                       uint64_t stamp);

@@ -3,6 +3,9 @@ use Prim.Native.Nat.{ℕ, zero, suc, _+_, _≤_, _<_}
 use mathlib.Core.Path.{_≡_}
 use native.Mathlib.Nat.{not-suc-le-zero}
 use native.Mathlib.Omega.{arith}
+use lib.Dec.{ltb}
+use borrow.Author.Tests.{ltb-true, ltb-false}
+use Rattle.lists.proofs.Cases.{by-test}
 use Rattle.lists.proofs.Below.{below}
 use Rattle.lists.proofs.TableLaws.{table-at}
 use Rattle.registration.specs.declared.Registration.{Registration}
@@ -25,6 +28,18 @@ turn-takes-all offer withdrawal zero priority h rest = absurd (not-suc-le-zero h
 turn-takes-all offer withdrawal (suc count) priority h rest =
     below (λ (k : ℕ). shareAt offer withdrawal k ≡ offer k) count priority h
     (λ l. turn-takes-all offer withdrawal count priority l (omega arith)) (omega arith)
+
+-- after a priority at which less is taken than is offered nothing is left
+pub nothing-left : (offer : ℕ → ℕ) (withdrawal priority later : ℕ) → priority < later → shareAt offer withdrawal priority < offer priority
+    → leftAt offer withdrawal later ≡ 0
+unfolding leftAt
+nothing-left offer withdrawal priority zero h less = absurd (not-suc-le-zero h)
+nothing-left offer withdrawal priority (suc later) h less =
+    by-test (ltb priority later)
+    (λ t. omega (arith, nothing-left offer withdrawal priority later (ltb-true priority later t) less))
+    (λ t.
+    let last : priority ≡ later = omega (arith, ltb-false priority later t) in
+    omega (arith, rw last at less))
 
 module _ (r : Registration) (start : Remaining) (consumer : ℕ) (h : consumer < r .consumers) where
   withdrawal-after : withdrawalAt (roundOf r start) consumer ≡ leftAt (offerIn r start consumer) (withdrawalAt start consumer) (countAt r consumer)

@@ -14,14 +14,14 @@ use Rattle.lists.specs.Below.{sumBelow}
 use Rattle.registration.specs.Rules.{points, countAt, sourceAt, keyAt}
 use Rattle.registration.specs.Pairs.{pairsIn}
 use Rattle.registration.proofs.Damage.{undamaged-parts}
-use Rattle.allocation.specs.Rounds.{Remaining, withdrawalAt, supplyAt, roundsOf, shareIn, roundOf, afterRounds, received}
+use Rattle.allocation.specs.Rounds.{Remaining, withdrawalAt, supplyAt, roundsOf, offerIn, shareIn, roundOf, afterRounds, received}
 use Rattle.allocation.specs.Result.{startOf, pairsOf, roundsFor, allocationOf, pairShare}
 use Rattle.allocation.specs.Laws.{UndamagedIsShareable, RoundWithinSupply, SupplyAddsUp, WithdrawalAddsUp, WithinWithdrawal}
-use Rattle.allocation.specs.Laws.{AllocationKeepsSupplies, AllocationKeepsWithdrawals, TurnSharesAll, EachRoundSharesAll, OneRoundSharesAll, AllocationRounds, OneRoundWithinKey}
+use Rattle.allocation.specs.Laws.{AllocationKeepsSupplies, AllocationKeepsWithdrawals, ByPriority, TurnSharesAll, EachRoundSharesAll, OneRoundSharesAll, AllocationRounds, OneRoundWithinKey}
 use Rattle.lists.proofs.Sums.{sum-add}
 use Rattle.allocation.proofs.Shareable.{pair-of}
 use Rattle.allocation.proofs.Pairs.{pairs-length, pair-at, of-consumer-same, of-producer-same}
-use Rattle.allocation.proofs.Consumers.{round-keeps-withdrawal, round-takes-all}
+use Rattle.allocation.proofs.Consumers.{nothing-left, round-keeps-withdrawal, round-takes-all}
 use Rattle.allocation.proofs.Producers.{of-producer-add, taken-within-supply, round-keeps-supply}
 
 -- there are at most five rounds
@@ -94,6 +94,10 @@ allocation-keeps-withdrawals r magnitude consumer h =
     let shares = of-consumer-same r _ _ (pair-received r magnitude) consumer h in
     let kept = withdrawal-adds-up r (startOf r magnitude) (roundsFor r) consumer h in
     omega (arith, shares, kept, table-at (λ consumer. magnitude (r .producers + consumer)) (r .consumers) consumer h)
+
+pub by-priority : ByPriority
+by-priority r start consumer priority later h less =
+    omega (arith, nothing-left (offerIn r start consumer) (withdrawalAt start consumer) priority later h less)
 
 pub turn-shares-all : TurnSharesAll
 turn-shares-all r start consumer priority h l rest = omega (arith, round-takes-all r start consumer h priority l rest)

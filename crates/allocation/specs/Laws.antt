@@ -54,6 +54,25 @@ AllocationKeepsWithdrawals =
     → ofConsumer r (pairShare r (allocationOf r magnitude)) consumer + getD (allocationOf r magnitude .withdrawals) consumer 0
     ≡ magnitude (r .producers + consumer)
 
+-- with iteration 1 and at most 50 points an allocation has as many rounds as there are consumers, but no more than 5; with more points, or another
+-- iteration, it has one
+pub record RoundsAre (r : Registration) (rounds : ℕ) : Type 0 where
+  pub few : r .iteration ≡ 1 → r .producers + r .consumers ≤ 50 → r .consumers ≤ 5 → rounds ≡ r .consumers
+  pub many : r .iteration ≡ 1 → r .producers + r .consumers ≤ 50 → 5 ≤ r .consumers → rounds ≡ 5
+  pub large : 51 ≤ r .producers + r .consumers → rounds ≡ 1
+  pub once : r .iteration ≢ 1 → rounds ≡ 1
+
+-- so it is with every allocation
+abbrev pub AllocationRounds : Type 0
+AllocationRounds = (r : Registration) (magnitude : ℕ → ℕ) → RoundsAre r (allocationOf r magnitude .rounds)
+
+-- by priority: a consumer that takes less than it is offered at a priority has nothing left, and takes nothing at a later one
+abbrev pub ByPriority : Type 0
+ByPriority =
+    (r : Registration) (start : Remaining) (consumer priority later : ℕ) → priority < later
+    → shareIn r start consumer priority < keyAt r consumer priority * supplyAt start (sourceAt r consumer priority - 1) / 10000
+    → shareIn r start consumer later ≡ 0
+
 -- a consumer that has something left after a round has taken all that it was offered in it: key × supply / 10000 of each producer that it names
 abbrev pub TurnSharesAll : Type 0
 TurnSharesAll =
@@ -62,7 +81,7 @@ TurnSharesAll =
     → shareIn r start consumer priority ≡ keyAt r consumer priority * supplyAt start (sourceAt r consumer priority - 1) / 10000
 
 -- so it is in the numbers of an allocation, over all its rounds: where a consumer has something left, each of its pairs has key × supply / 10000 of each
--- round, the supply being that at the round's start
+-- round, rounded down in each, the supply being that at the round's start
 abbrev pub EachRoundSharesAll : Type 0
 EachRoundSharesAll =
     (r : Registration) (magnitude : ℕ → ℕ) (consumer priority : ℕ) → consumer < r .consumers → priority < countAt r consumer
@@ -79,18 +98,6 @@ OneRoundSharesAll =
     → (consumer priority : ℕ) → consumer < r .consumers → priority < countAt r consumer
     → 1 ≤ getD (allocationOf r magnitude .withdrawals) consumer 0
     → pairShare r (allocationOf r magnitude) consumer priority ≡ keyAt r consumer priority * magnitude (sourceAt r consumer priority - 1) / 10000
-
--- with iteration 1 and at most 50 points an allocation has as many rounds as there are consumers, but no more than 5; with more points, or another
--- iteration, it has one
-pub record RoundsAre (r : Registration) (rounds : ℕ) : Type 0 where
-  pub few : r .iteration ≡ 1 → r .producers + r .consumers ≤ 50 → r .consumers ≤ 5 → rounds ≡ r .consumers
-  pub many : r .iteration ≡ 1 → r .producers + r .consumers ≤ 50 → 5 ≤ r .consumers → rounds ≡ 5
-  pub large : 51 ≤ r .producers + r .consumers → rounds ≡ 1
-  pub once : r .iteration ≢ 1 → rounds ≡ 1
-
--- so it is with every allocation
-abbrev pub AllocationRounds : Type 0
-AllocationRounds = (r : Registration) (magnitude : ℕ → ℕ) → RoundsAre r (allocationOf r magnitude .rounds)
 
 -- with one round no share exceeds key × supply / 10000
 abbrev pub OneRoundWithinKey : Type 0

@@ -10,7 +10,7 @@ use Rattle.service.specs.Record.{withState}
 use Rattle.event_calls.specs.declared.Answered.{Answered}
 use Rattle.event_calls.specs.Replies.{Reply}
 
--- no answer has more bytes: an R line, 5 S lines for each of 63 consumers, a U or V line for each of 64 points
+-- the room that an answer is given: an R line, 5 S lines for each of 63 consumers, a U or V line for each of 64 points
 abbrev pub answerMost : ℕ
 answerMost = 7332
 

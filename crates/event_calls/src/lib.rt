@@ -17,10 +17,11 @@ use service::Service;
 use service::State;
 use values::Measurement;
 
-// No answer has more bytes than this.
+// The room that an answer is given; no answer is longer, as `event_text` shows.
 pub const ANSWER_MOST: usize = 7332;
 
-// What answering a line gives: the record's changing part after it, and how many bytes were written.
+// What answering an event gives: whether it was answered, which `reply` always does; the record's changing part after it, and how many bytes
+// were written.
 pub struct Answered {
     pub verdict: Verdict,
     pub state: State,
@@ -35,7 +36,7 @@ pub fn put_refusal(out: &mut [u8], refusal: Refusal) -> usize
     event_writer::put_answer(out, 0, refusal.number(), 0)
 }
 
-// A line that was answered.
+// An event that was answered by so many bytes, with the record's changing part after it.
 fn with_bytes(state: State, bytes: usize) -> Answered
     ensures { λ r. ⌜ r ≡ record { verdict = AcceptedCall; state = state; bytes = bytes } ⌝ }
 {
@@ -46,7 +47,7 @@ fn with_bytes(state: State, bytes: usize) -> Answered
     }
 }
 
-// A line that asks for no call: its refusal is written, and nothing is altered.
+// An event that asks for no call: its refusal is written, and nothing is altered.
 fn no_call(state: State, out: &mut [u8], refusal: Refusal) -> Answered
     requires { ⌜ bytesOfAnswer ≤ length (now out) ⌝ }
     ensures { λ r. ⌜ Put 0 (lineA (numberOf refusal) 0) (now (out .entry)) (now (out .exit)) (r .bytes) × (r ≡ record { verdict = AcceptedCall; state = state; bytes = r .bytes }) ⌝ }

@@ -94,14 +94,17 @@ impl Service {
         Refusal::unless(submitted.answer, submitted.stamp)
     }
 
-    /// Clears the journal up to a day and a stamp, and tells how many entries were dropped.
+    /// Clears the journal, and tells how many entries were dropped: those of days below `day`, and of the others, among
+    /// those up to `stamp`, all but the newest for each code, day and quarter; later ones stay. Day and stamp become the
+    /// kept ones.
     pub fn clear(&mut self, journal: &mut [u64], day: u64, stamp: u64) -> Result<usize, Refusal> {
         let cleared = calls::clear(self, journal, day, stamp);
         Refusal::unless(cleared.answer, cleared.dropped)
     }
 
     /// Evaluates a quarter hour as of a stamp, and tells the round count. The result list gets the pairs' shares, then
-    /// what remains of each withdrawal, then of each supply; later numbers stay.
+    /// what remains of each withdrawal, then of each supply; later numbers stay. Two accepted evaluations of one quarter
+    /// hour as of one stamp give the same, whatever was submitted or cleared between them.
     pub fn evaluate(
         &self,
         journal: &[u64],
