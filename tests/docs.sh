@@ -3,7 +3,8 @@
 # A path is a word in backquotes that begins with crates/, docs/, tests/, tools/ or .ci/. A word in backquotes behind a path and a colon,
 # as in `crates/calendar/specs/Dates.antt`: `dayOf`, has to stand in that file as a whole word. The example of README.md is the input and
 # the output of a run in tests/share. The table of refusals is the same wherever it stands: in numbers and names, and in meanings where a user reads them.
-# The files that docs/READING.md lists use nothing of the project that stands elsewhere, and have about as many lines as it says.
+# The files that docs/READING.md lists use nothing of the project that stands elsewhere, and have about as many lines as it says. No two definitions of
+# specs/ have one name.
 set -u
 cd "$(dirname "$0")/.." || exit 1
 bad=0
@@ -75,6 +76,13 @@ texts=$(listed "Text and program")
 reads 950 1050 "$calls" "$calls"
 reads 550 650 "$texts" "$calls
 $texts"
+
+# No two definitions of specs/ have one name, whatever their crates.
+while read -r name; do
+    echo "two definitions of specs/ have the name $name:"
+    grep -nE "^(abbrev|unfoldable) pub $name |^(pub )?(record|data) $name " crates/*/specs/*.antt | cut -d : -f 1,2
+    bad=1
+done < <(sed -nE 's/^(abbrev|unfoldable) pub ([A-Za-z0-9]+) .*/\2/p; s/^pub (record|data) ([A-Za-z0-9]+) .*/\2/p' crates/*/specs/*.antt | sort | uniq -d)
 
 # Every law that a crate states has its row.
 for law in $(sed -nE 's/^abbrev pub ([A-Za-z0-9]+) : Type 0$/\1/p' crates/*/specs/Laws.antt crates/*/specs/Theorems.antt); do

@@ -3,9 +3,6 @@ use Prim.Native.Nat.{ℕ, zero, suc, _+_, _≤_, _<_}
 use mathlib.Core.Path.{_≡_}
 use native.Mathlib.Nat.{not-suc-le-zero}
 use native.Mathlib.Omega.{arith}
-use lib.Dec.{ltb}
-use borrow.Author.Tests.{ltb-true, ltb-false}
-use Rattle.lists.proofs.Cases.{by-test}
 use Rattle.lists.proofs.Below.{below}
 use Rattle.lists.proofs.TableLaws.{table-at}
 use Rattle.registration.specs.declared.Registration.{Registration}
@@ -35,11 +32,8 @@ pub nothing-left : (offer : ℕ → ℕ) (withdrawal priority later : ℕ) → p
 unfolding leftAt
 nothing-left offer withdrawal priority zero h less = absurd (not-suc-le-zero h)
 nothing-left offer withdrawal priority (suc later) h less =
-    by-test (ltb priority later)
-    (λ t. omega (arith, nothing-left offer withdrawal priority later (ltb-true priority later t) less))
-    (λ t.
-    let last : priority ≡ later = omega (arith, ltb-false priority later t) in
-    omega (arith, rw last at less))
+    below (λ (k : ℕ). shareAt offer withdrawal k < offer k → leftAt offer withdrawal (suc later) ≡ 0) later priority h
+    (λ l less. omega (arith, nothing-left offer withdrawal priority later l less)) (λ less. omega arith) less
 
 module _ (r : Registration) (start : Remaining) (consumer : ℕ) (h : consumer < r .consumers) where
   withdrawal-after : withdrawalAt (roundOf r start) consumer ≡ leftAt (offerIn r start consumer) (withdrawalAt start consumer) (countAt r consumer)

@@ -1,5 +1,5 @@
 -- What users of the published method rely on: nothing is lost, no share is too great, no offer is left by a consumer that has something left to
--- withdraw, there are at most five rounds, each list of an allocation has its length, and equal magnitudes have equal results. Assumes nothing.
+-- withdraw, priorities count, how many rounds there are, each list of an allocation has its length, and equal magnitudes have equal results. Assumes nothing.
 use Prim.Native.Nat.{ℕ, zero, suc, _+_, _-_, _*_, _/_, _≤_, _<_, min}
 use mathlib.Core.Path.{_≡_, ap, _∙_}
 use mathlib.Core.Bool.{_&&_}
@@ -14,7 +14,7 @@ use Rattle.lists.specs.Below.{sumBelow}
 use Rattle.registration.specs.Rules.{points, countAt, sourceAt, keyAt}
 use Rattle.registration.specs.Pairs.{pairsIn}
 use Rattle.registration.proofs.Damage.{undamaged-parts}
-use Rattle.allocation.specs.Rounds.{Remaining, withdrawalAt, supplyAt, roundsOf, offerIn, shareIn, roundOf, afterRounds, received}
+use Rattle.allocation.specs.Rounds.{Remaining, withdrawalAt, supplyAt, iteratedMost, roundsOf, offerIn, shareIn, roundOf, afterRounds, received}
 use Rattle.allocation.specs.Result.{startOf, pairsOf, roundsFor, allocationOf, pairShare}
 use Rattle.allocation.specs.Laws.{UndamagedIsShareable, RoundWithinSupply, SupplyAddsUp, WithdrawalAddsUp, WithinWithdrawal}
 use Rattle.allocation.specs.Laws.{AllocationKeepsSupplies, AllocationKeepsWithdrawals, ByPriority, TurnSharesAll, EachRoundSharesAll, OneRoundSharesAll, AllocationRounds, OneRoundWithinKey}
@@ -28,13 +28,13 @@ use Rattle.allocation.proofs.Producers.{of-producer-add, taken-within-s
 pub rounds-most : (iteration points consumers : ℕ) → roundsOf iteration points consumers ≤ 5
 unfolding roundsOf
 rounds-most iteration points consumers =
-    by-test (eqb iteration 1 && leb points 50) (λ t. rw t (omega arith)) (λ t. rw t (omega arith))
+    by-test (eqb iteration 1 && leb points iteratedMost) (λ t. rw t (omega arith)) (λ t. rw t (omega arith))
 
 module _ (r : Registration) where
   -- with iteration 1 and at most 50 points there are the smaller of 5 and the number of consumers
   iterated : r .iteration ≡ 1 → r .producers + r .consumers ≤ 50 → roundsFor r ≡ min 5 (r .consumers)
   unfolding roundsOf
-  iterated i l = rw (eq-eqb (r .iteration) 1 i, le-leb (points r) 50 l) (omega arith)
+  iterated i l = rw (eq-eqb (r .iteration) 1 i, le-leb (points r) iteratedMost (omega arith)) (omega arith)
 
 pub allocation-rounds : AllocationRounds
 unfolding allocationOf roundsOf
@@ -42,7 +42,7 @@ allocation-rounds r magnitude =
     record {
       few = λ i l c. omega (arith, iterated r i l);
       many = λ i l c. omega (arith, iterated r i l);
-      large = λ l. by-test (eqb (r .iteration) 1) (λ t. rw (t, lt-leb (points r) 50 (omega arith))) (λ t. rw t);
+      large = λ l. by-test (eqb (r .iteration) 1) (λ t. rw (t, lt-leb (points r) iteratedMost (omega arith))) (λ t. rw t);
       once = λ n. rw (ne-eqb (r .iteration) 1 n);
     }
 
@@ -97,7 +97,7 @@ allocation-keeps-withdrawals r magnitude consumer h =
 
 pub by-priority : ByPriority
 by-priority r start consumer priority later h less =
-    omega (arith, nothing-left (offerIn r start consumer) (withdrawalAt start consumer) priority later h less)
+    omega (arith, nothing-left (offerIn r start consumer) (withdrawalAt start consumer) priority later h (omega arith))
 
 pub turn-shares-all : TurnSharesAll
 turn-shares-all r start consumer priority h l rest = omega (arith, round-takes-all r start consumer h priority l rest)

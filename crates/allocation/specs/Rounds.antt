@@ -15,9 +15,13 @@ use Rattle.registration.specs.Pairs.{ofProducer}
 abbrev pub roundsMost : ℕ
 roundsMost = 5
 
+-- the most points with which there is more than one
+abbrev pub iteratedMost : ℕ
+iteratedMost = 50
+
 -- how many rounds there are: with iteration 1 and at most 50 points the smaller of 5 and the number of consumers, otherwise 1
 unfoldable pub roundsOf : (iteration points consumers : ℕ) → ℕ
-roundsOf iteration points consumers = cond (eqb iteration 1 && leb points 50) (min roundsMost consumers) 1
+roundsOf iteration points consumers = cond (eqb iteration 1 && leb points iteratedMost) (min roundsMost consumers) 1
 
 -- what is left of each consumer's withdrawal and of each producer's supply
 pub record Remaining : Type 0 where

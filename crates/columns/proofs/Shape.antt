@@ -7,7 +7,7 @@ use native.Mathlib.Omega.{arith}
 use lib.Dec.{eqb·suc-zero}
 use lib.ListN.{length, getD, replicate, length-append}
 use Rattle.columns.specs.Column.{leadOf, columnOf}
-use Rattle.columns.specs.Laws.{Looks, decimalFrom}
+use Rattle.columns.specs.Laws.{ColumnLooks, decimalFrom}
 use Rattle.columns.proofs.Clauses.{columnOf-suc}
 use Rattle.columns.proofs.Fill.{length-column}
 use Rattle.columns.proofs.Values.{tenth}
@@ -104,7 +104,7 @@ module _ (minus : Bool) (sign : List ℕ) (zeros : (p w : ℕ) → p ≡ length 
   lead-looks (suc p) (suc w) (suc n) l h = digit-more minus sign p n (lead-looks p w (suc n / 10) (omega arith) (tenth w (suc n) h))
 
   -- the whole column, with the last digit, which is written of 0 too
-  column-looks : (p w n : ℕ) → p ≡ length sign + suc w → n < 10 ^ suc w → Looks sign (suc p) n (columnOf minus (suc p) n)
+  column-looks : (p w n : ℕ) → p ≡ length sign + suc w → n < 10 ^ suc w → ColumnLooks sign (suc p) n (columnOf minus (suc p) n)
   column-looks p w n l h =
       let i = lead-looks p w (n / 10) l (tenth w n h) in
       record {
@@ -120,13 +120,13 @@ module _ (minus : Bool) (sign : List ℕ) (zeros : (p w : ℕ) → p ≡ length 
         value = decimal-snoc 0 (i .decimals) (48 + n % 10) ∙ rw (i .value) (omega arith);
       }
 
-pub positive-looks : (w n : ℕ) → n < 10 ^ suc w → Looks [] (suc (suc w)) n (columnOf false (suc (suc w)) n)
+pub positive-looks : (w n : ℕ) → n < 10 ^ suc w → ColumnLooks [] (suc (suc w)) n (columnOf false (suc (suc w)) n)
 positive-looks w n h = column-looks false [] zeros (suc w) w n (omega arith) h
   where
     zeros : (p k : ℕ) → p ≡ length {A = ℕ} [] + k → leadOf false p 0 ≡ replicate k 32 ++ []
     zeros p k l = let e : p ≡ k = omega arith in rw e (spaces-lead k ∙ sym (append-nil _))
 
-pub negative-looks : (w n : ℕ) → n < 10 ^ suc w → Looks (45 ∷ []) (suc (suc (suc w))) n (columnOf true (suc (suc (suc w))) n)
+pub negative-looks : (w n : ℕ) → n < 10 ^ suc w → ColumnLooks (45 ∷ []) (suc (suc (suc w))) n (columnOf true (suc (suc (suc w))) n)
 negative-looks w n h = column-looks true (45 ∷ []) zeros (suc (suc w)) w n (omega arith) h
   where
     zeros : (p k : ℕ) → p ≡ length {A = ℕ} (45 ∷ []) + k → leadOf true p 0 ≡ replicate k 32 ++ (45 ∷ [])

@@ -45,7 +45,7 @@ decimalFrom v [] = v
 decimalFrom v (byte ∷ bytes) = decimalFrom (v * 10 + (byte - 48)) bytes
 
 -- w bytes: spaces (32), at least one; the sign's byte where there is one; then n in decimal digits (48 to 57), with no leading 0 (48): 0 is the digit 0 alone
-pub record Looks (sign : List ℕ) (w n : ℕ) (column : List ℕ) : Type 0 where
+pub record ColumnLooks (sign : List ℕ) (w n : ℕ) (column : List ℕ) : Type 0 where
   pub spaces : ℕ
   pub decimals : List ℕ
   pub whole : column ≡ replicate spaces 32 ++ (sign ++ decimals)
@@ -59,7 +59,7 @@ pub record Looks (sign : List ℕ) (w n : ℕ) (column : List ℕ) : Type 0 wher
 
 -- the column of a number that leaves a place for the leading space is spaces and the number's digits
 abbrev pub NumberLooks : Type 0
-NumberLooks = (w n : ℕ) → 2 ≤ w → n < 10 ^ (w - 1) → Looks [] w n (columnOf false w n)
+NumberLooks = (w n : ℕ) → 2 ≤ w → n < 10 ^ (w - 1) → ColumnLooks [] w n (columnOf false w n)
 
 -- the sign of a value: a minus (45) below 0, and otherwise nothing
 abbrev pub signOf : ℤ → List ℕ
@@ -69,16 +69,16 @@ signOf (negsuc n) = 45 ∷ []
 -- the column of a signed value that leaves a place for its sign and the leading space is spaces, the sign and the magnitude's digits
 abbrev pub SignedLooks : Type 0
 SignedLooks =
-    (w : ℕ) (value : ℤ) → 2 ≤ w → natAbs value < 10 ^ digits w value → Looks (signOf value) w (natAbs value) (signedColumnOf w value)
+    (w : ℕ) (value : ℤ) → 2 ≤ w → natAbs value < 10 ^ digits w value → ColumnLooks (signOf value) w (natAbs value) (signedColumnOf w value)
 
 -- a column that is read as a number is spaces and that number's digits
 abbrev pub NumberReadLooks : Type 0
-NumberReadLooks = (column : List ℕ) (n : ℕ) → numberIn column ≡ Is n → Looks [] (length column) n column
+NumberReadLooks = (column : List ℕ) (n : ℕ) → numberIn column ≡ Is n → ColumnLooks [] (length column) n column
 
 -- a column that is read as a signed value is spaces, its sign and its magnitude's digits
 abbrev pub SignedReadLooks : Type 0
 SignedReadLooks =
-    (column : List ℕ) (value : ℤ) → signedIn column ≡ IsSigned value → Looks (signOf value) (length column) (natAbs value) column
+    (column : List ℕ) (value : ℤ) → signedIn column ≡ IsSigned value → ColumnLooks (signOf value) (length column) (natAbs value) column
 
 -- ---- several columns
 

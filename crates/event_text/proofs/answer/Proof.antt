@@ -6,7 +6,7 @@ use Rattle.event_text.proofs.answer.Statement.{statement}
 use Rattle.event_text.proofs.answer.Tie as tie
 
 returns : tie.Need-returns
-returns c = no-room _ _ _ _ (c .before .if1 .taken)
+returns c = no-room _ _ _ _ (omega (arith, c .before .if1 .taken))
 
 read-requires : tie.Need-read-requires
 read-requires c κs = search needs
