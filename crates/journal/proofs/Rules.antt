@@ -8,11 +8,15 @@ use lib.Dec.{leb, ltb}
 use borrow.Author.Tests.{lt-ltb, le-ltb, le-leb, lt-leb}
 use Rattle.lists.proofs.Below.{and-late}
 use Rattle.calendar.specs.Quarters.{quarterExists}
-use Rattle.journal.specs.Value.{storedRight}
+use Rattle.values.specs.Values.{magnitudeMost}
 use Rattle.journal.specs.Entries.{Entry, pointIn, dayIn, quarterIn, pointPlaces}
 use Rattle.journal.specs.Stored.{entryAt, entries}
 use Rattle.journal.specs.Damage.{entryRight, entriesRight}
 use Rattle.journal.proofs.Stored.{rest, rest-start, rest-end, rest-step}
+
+and-true : (b : Bool) → b && true ≡ b
+and-true true = refl
+and-true false = refl
 
 -- ---- four tests in a row of which one fails, or of which three hold
 module _ (a b c d : Bool) where
@@ -24,6 +28,12 @@ module _ (a b c d : Bool) where
 
   third-fails : c ≡ false → false ≡ a && b && c && d
   third-fails e = rw (and-late (a && b) c e)
+
+  fourth-fails : d ≡ false → false ≡ a && b && c && d
+  fourth-fails e = rw (and-late (a && b && c) d e)
+
+  third-left : a ≡ true → b ≡ true → d ≡ true → c ≡ a && b && c && d
+  third-left p q s = rw (p, q, s, and-true c)
 
   fourth-left : a ≡ true → b ≡ true → c ≡ true → d ≡ a && b && c && d
   fourth-left p q r = rw (p, q, r)
@@ -43,14 +53,17 @@ module _ (points K : ℕ) (e : Entry) where
   unfolding entryRight
   wrong-day h = second-fails (ltb (pointIn (e .place)) points) _ _ _ (lt-leb K (dayIn (e .place)) h)
 
-  pub wrong-quarter : quarterExists (dayIn (e .place)) (quarterIn (e .place)) ≡ false → false ≡ entryRight points K e
+  pub wrong-stored : magnitudeMost < e .stored → false ≡ entryRight points K e
   unfolding entryRight
-  wrong-quarter h = third-fails (ltb (pointIn (e .place)) points) (leb K (dayIn (e .place))) _ _ h
+  wrong-stored h =
+      fourth-fails (ltb (pointIn (e .place)) points) (leb K (dayIn (e .place))) (quarterExists (dayIn (e .place)) (quarterIn (e .place))) _
+      (lt-leb (e .stored) magnitudeMost h)
 
-  pub stored-left : pointIn (e .place) < points → K ≤ dayIn (e .place) → quarterExists (dayIn (e .place)) (quarterIn (e .place)) ≡ true
-      → storedRight (e .stored) ≡ entryRight points K e
+  pub quarter-left : pointIn (e .place) < points → K ≤ dayIn (e .place) → e .stored ≤ magnitudeMost
+      → quarterExists (dayIn (e .place)) (quarterIn (e .place)) ≡ entryRight points K e
   unfolding entryRight
-  stored-left p q r = fourth-left _ _ _ _ (lt-ltb (pointIn (e .place)) points p) (le-leb K (dayIn (e .place)) q) r
+  quarter-left p q s =
+      third-left _ _ _ _ (lt-ltb (pointIn (e .place)) points p) (le-leb K (dayIn (e .place)) q) (le-leb (e .stored) magnitudeMost s)
 
 -- ---- one entry, by its place alone: the first place that is no point's, and the first of the kept day
 module _ (points K place : ℕ) where

@@ -84,7 +84,7 @@ fn quarter_right(slot: u64) -> bool
 }
 
 // Whether an entry is right, but for its stamp: its point, by the first place that is no point's, its day, by the first place of the kept day, its
-// quarter and its magnitude.
+// magnitude, and last its quarter, for which the calendar may be asked.
 fn entry_right(place: u64, stored: u64, end: u64, first: u64) -> bool
     ensures { λ r. ⌜ ((points K : ℕ) → end ≡ points * pointPlaces → first ≡ K * 100 → r ≡ entryRight points K (record { stamp = 0; place = place; stored = stored })) ⌝ }
 {
@@ -95,10 +95,10 @@ fn entry_right(place: u64, stored: u64, end: u64, first: u64) -> bool
     if slot < first {
         return false;
     }
-    if !quarter_right(slot) {
+    if stored > values::MAGNITUDE_MOST {
         return false;
     }
-    stored <= values::MAGNITUDE_MOST
+    quarter_right(slot)
 }
 
 // Whether the entries are right: their stamps rise within 1..last, and each is right.
