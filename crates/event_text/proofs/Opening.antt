@@ -1,16 +1,17 @@
 -- The opening of an input: refused with zeros, or a fresh service and where its events begin. Assumes nothing.
-use Prim.Native.Nat.{ℕ, _+_, _≤_, _<_}
+use Prim.Native.Nat.{ℕ, _≤_, _<_}
 use mathlib.Core.Path.{_≡_, sym, ap, _∙_}
 use mathlib.Core.Bool.{false}
-use mathlib.Core.List.{List, [], append-nil}
+use mathlib.Core.List.{List, []}
 use native.Mathlib.Omega.{arith}
 use borrow.Author.Tests.{lt-ltb, le-ltb}
-use lib.ListN.{length, take, drop, drop-of-length-le}
+use lib.ListN.{length, take}
 use Rattle.answers.specs.declared.Refusal.{Refusal}
 use Rattle.answers.specs.declared.Refusal.the-variants.{NotInColumns}
 use Rattle.answers.specs.declared.Verdict.the-variants.{Accepted, Refused}
 use Rattle.answers.specs.Order.{refuse_if_else_}
-use Rattle.lists.specs.Place.{placed, Put}
+use Rattle.lists.specs.Place.{Put}
+use Rattle.lists.proofs.PlaceLaws.{put-whole}
 use Rattle.registration.specs.Damage.{isDamaged}
 use Rattle.registration_text.specs.declared.Answer.{Answer}
 use Rattle.registration_text.specs.Reader.{readText}
@@ -62,10 +63,7 @@ module _ (input : List ℕ) where
 -- the line of a refusal fills its buffer
 pub whole-line : (answer number next : ℕ) (before after : List ℕ) → bytesOfAnswer ≡ length before → Put 0 (lineA answer number) before after next
     → (after ≡ lineA answer number) × (bytesOfAnswer ≡ length after)
-unfolding placed
 whole-line answer number next before after e p =
     let long = length-of-answer answer number in
-    let short : length before ≤ 0 + length (lineA answer number) = omega (arith, long) in
-    let none : drop (0 + length (lineA answer number)) before ≡ [] = drop-of-length-le before short in
-    let whole : after ≡ lineA answer number = p .list ∙ rw none (append-nil (lineA answer number)) in
+    let whole : after ≡ lineA answer number = put-whole (omega (arith, long)) p in
     (whole, omega (arith, long, ap length whole))
