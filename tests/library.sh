@@ -1,6 +1,7 @@
 #!/usr/bin/env bash
 # The static library for C and Rust: it is proved and built, its header is compiled as C and as C++, and the example programs of both languages are built
-# and run. Each has to write what program `share` writes for case LIST. Header and Rust package give a result the room that crates/evaluation has proved enough.
+# and run. Each has to write what program `share` writes for case LIST. Header and Rust package give a result the room that crates/evaluation has proved enough,
+# and the table of changeover days as many entries as crates/calendar has.
 set -u
 cd "$(dirname "$0")/.." || exit 1
 bash tests/built.sh || exit 1
@@ -23,7 +24,7 @@ run() {
 
 # The number that stands behind a name in a file.
 number() {
-    sed -nE "s/.*$1(: usize)?( =)? ([0-9]+)[^0-9]*$/\3/p" "$2"
+    sed -nE "s/.*$1(: [a-z0-9]+)?( =)? ([0-9]+)[^0-9]*$/\3/p" "$2"
 }
 
 # A number that is given in several files, by the first of them: its name there, the file, then a name and a file for each other.
@@ -41,6 +42,7 @@ same() {
 }
 
 same resultMost crates/evaluation/specs/Layout.antt RESULT_MOST crates/evaluation/src/lib.rt RESULT_MOST $home/share.h RESULT_MOST $home/rust/src/lib.rs
+same changeoverCount crates/calendar/specs/Changeovers.antt CHANGEOVERS $home/share.h CHANGEOVERS $home/rust/src/lib.rs
 same TEXT_MOST $home/share.h TEXT_MOST $home/rust/src/lib.rs
 
 # shellcheck disable=SC2086

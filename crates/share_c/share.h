@@ -57,6 +57,9 @@ enum {
 #define SHARE_TEXT_MOST 4552
 #define SHARE_RESULT_MOST 359
 
+/* How many entries the table of changeover days has: two for each year from 2024 to 2099. */
+#define SHARE_CHANGEOVERS 152
+
 /*
  * A group. Points stand from 0, producers first; `codes` and `statuses` are by point, `counts` by consumer. The producers that consumer c
  * names stand, in falling priority, from place 5 * c on: in `sources` by their numbers, counted from 1, and in `keys` with their keys in
@@ -174,6 +177,13 @@ struct share_evaluate_answer share_evaluate(struct share_service service, const 
 
 /* The day of a date, which is written as the number YYYYMMDD. Refused by 9. */
 struct share_day_answer share_day(uint64_t date);
+
+/*
+ * The day at a place of the table of changeover days; places count from 0, and the days rise. At an even place stands the last Sunday of
+ * March, a day of 92 quarter hours, at the odd place after it that of October of the same year, a day of 100; no other day has 92 or 100.
+ * Refused by 9 from place SHARE_CHANGEOVERS on.
+ */
+struct share_day_answer share_changeover(uint64_t place);
 
 /* The date YYYYMMDD of a day, 0 where the calendar has no such day. */
 uint64_t share_date(uint64_t day);

@@ -1,12 +1,11 @@
 -- An answer of a call, told as numbers, is the one that the library promises. Assumes nothing.
 use Prim.Native.Nat.{ℕ}
-use mathlib.Core.Path.{_≡_, sym}
+use mathlib.Core.Path.{_≡_}
 use mathlib.Core.List.{List}
 use Rattle.answers.specs.Numbers.{answerOf, numberOf}
 use Rattle.answers.specs.declared.Refusal.the-variants.{NoSuchDay}
 use Rattle.calendar.specs.declared.Day.{Day}
 use Rattle.calendar.specs.declared.Day.the-variants.{Is, Missing}
-use Rattle.calendar.specs.Dates.{dayOf}
 use Rattle.registration.specs.declared.Registration.{Registration}
 use Rattle.registration_text.specs.declared.Answer.{Answer}
 use Rattle.registration_text.specs.declared.Written as text-written
@@ -53,9 +52,9 @@ pub evaluate-numbers : (s : Service) (j : List ℕ) (day quarter T : ℕ) (lent 
     → EvaluateLeaves s j day quarter T lent (record { answer = number; rounds = given .rounds }) lent′
 evaluate-numbers s j day quarter T lent given number lent′ m n = record { answers = rw (n, m .answers); result = m .result }
 
-module _ (date : ℕ) (found : Day) (e : found ≡ dayOf date) where
-  pub day-found : (day : ℕ) → found ≡ Is day → _≡_ {A = Dated} (record { answer = 0; day = day }) (dayAnswer (dayOf date))
-  day-found day q = rw (sym e, q)
+module _ (found : Day) where
+  pub day-found : (day : ℕ) → found ≡ Is day → _≡_ {A = Dated} (record { answer = 0; day = day }) (dayAnswer found)
+  day-found day q = rw q
 
-  pub day-missing : (number : ℕ) → found ≡ Missing → number ≡ numberOf NoSuchDay → _≡_ {A = Dated} (record { answer = number; day = 0 }) (dayAnswer (dayOf date))
-  day-missing number q n = rw (sym e, q, n)
+  pub day-missing : (number : ℕ) → found ≡ Missing → number ≡ numberOf NoSuchDay → _≡_ {A = Dated} (record { answer = number; day = 0 }) (dayAnswer found)
+  day-missing number q n = rw (q, n)

@@ -71,7 +71,7 @@ pub record EvaluateLeaves (s : Service) (j : List ℕ) (day quarter T : ℕ) (le
   pub answers : answer ≡ evaluateAnswer (callOn s j (Evaluation day quarter T lent) .seen)
   pub result : lent′ ≡ callOn s j (Evaluation day quarter T lent) .seen .result
 
--- the answer of a date's day: its number, or 9 and 0 where there is no such date
+-- the answer of a day that was asked for: its number, or 9 and 0 where there is none
 abbrev pub dayAnswer : Day → Dated
 dayAnswer (Is day) = record { answer = 0; day = day }
 dayAnswer Missing = record { answer = numberOf NoSuchDay; day = 0 }

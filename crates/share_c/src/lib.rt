@@ -2,6 +2,7 @@
 ghost use mathlib.Core.Path.{_≡_};
 ghost use Rattle.calendar.specs.Dates.{dayOf, dateOf};
 ghost use Rattle.calendar.specs.Quarters.{quartersOf};
+ghost use Rattle.calendar.specs.Changeovers.{changeoverAt};
 ghost use Rattle.service.specs.Record.{withState};
 ghost use Rattle.share_c.specs.Contracts.{readAnswer, WriteLeaves, freshAnswer, SubmitLeaves, ClearLeaves, EvaluateLeaves, dayAnswer};
 use answers::Refusal;
@@ -53,7 +54,7 @@ pub struct Evaluated {
     pub rounds: usize,
 }
 
-// The answer of `share_day`: the day's number.
+// The answer of `share_day` and of `share_changeover`: the day's number.
 #[repr(C)]
 pub struct Dated {
     pub answer: u64,
@@ -197,12 +198,10 @@ pub extern "C" fn share_evaluate(
     Evaluated { answer, rounds }
 }
 
-// The day of a date YYYYMMDD.
-#[no_mangle]
-pub extern "C" fn share_day(date: u64) -> Dated
-    ensures { λ r. ⌜ r ≡ dayAnswer (dayOf date) ⌝ }
+// A day with its answer as a number: 9 and 0 where there is none.
+fn day_answer(found: Day) -> Dated
+    ensures { λ r. ⌜ r ≡ dayAnswer found ⌝ }
 {
-    let found = calendar::day_of(date);
     match found {
         Day::Is(day) => Dated { answer: 0, day },
         Day::Missing => {
@@ -210,6 +209,22 @@ pub extern "C" fn share_day(date: u64) -> Dated
             Dated { answer, day: 0 }
         }
     }
+}
+
+// The day of a date YYYYMMDD.
+#[no_mangle]
+pub extern "C" fn share_day(date: u64) -> Dated
+    ensures { λ r. ⌜ r ≡ dayAnswer (dayOf date) ⌝ }
+{
+    day_answer(calendar::day_of(date))
+}
+
+// The day at a place of the table of changeover days, counted from 0: that of March at an even place, that of October at an odd one.
+#[no_mangle]
+pub extern "C" fn share_changeover(place: u64) -> Dated
+    ensures { λ r. ⌜ r ≡ dayAnswer (changeoverAt place) ⌝ }
+{
+    day_answer(calendar::changeover_at(place))
 }
 
 // The date YYYYMMDD of a day, 0 where the calendar has no such day.

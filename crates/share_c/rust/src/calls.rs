@@ -52,7 +52,7 @@ pub struct Evaluated {
     pub rounds: usize,
 }
 
-/// The answer of `day`: the day's number.
+/// The answer of `day` and of `changeover`: the day's number.
 #[repr(C)]
 #[derive(Clone, Copy, PartialEq, Eq, Debug)]
 pub struct Dated {
@@ -83,6 +83,7 @@ extern "C" {
         result_length: usize,
     ) -> Evaluated;
     fn share_day(date: u64) -> Dated;
+    fn share_changeover(place: u64) -> Dated;
     fn share_date(day: u64) -> u64;
     fn share_quarters(day: u64) -> u64;
 }
@@ -138,6 +139,11 @@ pub fn evaluate(
 /// The day of a date YYYYMMDD.
 pub fn day(date: u64) -> Dated {
     unsafe { share_day(date) }
+}
+
+/// The day at a place of the table of changeover days, counted from 0.
+pub fn changeover(place: u64) -> Dated {
+    unsafe { share_changeover(place) }
 }
 
 /// The date YYYYMMDD of a day, 0 where the calendar has no such day.

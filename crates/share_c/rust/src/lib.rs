@@ -14,6 +14,9 @@ pub const TEXT_MOST: usize = 4552;
 /// A list of so many numbers holds every result.
 pub const RESULT_MOST: usize = 359;
 
+/// The table of changeover days has so many entries, two for each year from 2024 to 2099.
+pub const CHANGEOVERS: u64 = 152;
+
 /// A group: its points, producers first, and who names whom with which key. What is not used is 0.
 ///
 /// Consumer `c` names `counts[c]` producers, in falling priority, from place `5 * c` on: `sources` has their numbers,
@@ -121,5 +124,12 @@ impl Service {
 /// The day of a date, which is written as the number YYYYMMDD.
 pub fn day(date: u64) -> Result<u64, Refusal> {
     let dated = calls::day(date);
+    Refusal::unless(dated.answer, dated.day)
+}
+
+/// The day at a place of the table of changeover days, counted from 0: the last Sunday of March, a day of 92 quarter
+/// hours, at an even place, that of October of the same year, a day of 100, at the odd place after it.
+pub fn changeover(place: u64) -> Result<u64, Refusal> {
+    let dated = calls::changeover(place);
     Refusal::unless(dated.answer, dated.day)
 }
