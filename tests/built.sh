@@ -1,5 +1,5 @@
 #!/usr/bin/env bash
-# Proves and builds program `share`, by share.sh, and the static library, where one is not there yet or a crate has changed since.
+# Proves and builds program `share`, by share.sh, program `changeovers` and the static library, where one is not there yet or a crate has changed since.
 set -u
 cd "$(dirname "$0")/.." || exit 1
 
@@ -9,4 +9,7 @@ stands() {
 }
 
 bash share.sh tests/share/list.in >/dev/null || exit 1
+# Where the note stands, rt builds no program.
+[ -x target/bin/changeovers ] || rm -f target/stamp/changeovers
+stands target/bin/changeovers || rt check changeovers || exit 1
 stands target/staticlib/libshare_c.a || rt staticlib share_c || exit 1

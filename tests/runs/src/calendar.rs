@@ -1,6 +1,9 @@
-//! Every day and every date through the library and through the second implementation.
+//! Every day, every date and every changeover through the library and through the second implementation, and what program
+//! `changeovers` prints.
 
+use crate::program;
 use second::calendar;
+use share_library::calls::Dated;
 
 /// The numbers that are tried as dates: every month and day from 2023 to 2100, right ones and wrong ones, and some of
 /// other lengths.
@@ -22,16 +25,37 @@ fn dates() -> impl Iterator<Item = u64> {
     ])
 }
 
-/// Compares the day of a date; 9 and 0 stand for none.
-fn same_day(date: u64) -> bool {
-    let found = share_library::calls::day(date);
-    match calendar::day_of(date) {
-        Some(day) => (found.answer, found.day) == (0, day),
-        None => (found.answer, found.day) == (second::refusal::NO_SUCH_DAY, 0),
+/// The answer of a call that looks for a day; 9 and 0 stand for none.
+fn dated(found: Option<u64>) -> Dated {
+    match found {
+        Some(day) => Dated { answer: 0, day },
+        None => Dated {
+            answer: second::refusal::NO_SUCH_DAY,
+            day: 0,
+        },
     }
 }
 
-/// Compares all days and dates.
+/// Compares every entry of the table of changeovers, the places beyond the last, and the printed table. Tells how many
+/// entries there are.
+fn compare_changeovers() -> Result<u64, String> {
+    let entries = calendar::changeovers().len() as u64;
+    if entries != share_library::CHANGEOVERS {
+        return Err(format!("the second implementation has {entries} changeovers"));
+    }
+    let places = (0..entries + 1000).chain([1 << 16, 1 << 32, 1 << 63, u64::MAX]);
+    for place in places {
+        if share_library::calls::changeover(place) != dated(calendar::changeover(place)) {
+            return Err(format!("the changeover at place {place} differs"));
+        }
+    }
+    if program::written(&program::program("changeovers"), b"") != calendar::changeover_text() {
+        return Err("program changeovers prints another table".to_string());
+    }
+    Ok(entries)
+}
+
+/// Compares all days, dates and changeovers.
 pub fn compare() -> Result<String, String> {
     let days = || (0..calendar::DAYS + 1000).chain([1 << 32, 1 << 63, u64::MAX]);
     if let Some(day) = days().find(|&day| share_library::calls::quarters(day) != calendar::quarters(day).unwrap_or(0)) {
@@ -40,15 +64,16 @@ pub fn compare() -> Result<String, String> {
     if let Some(day) = days().find(|&day| share_library::calls::date(day) != calendar::date_of(day).unwrap_or(0)) {
         return Err(format!("the date of day {day} differs"));
     }
-    if let Some(date) = dates().find(|&date| !same_day(date)) {
+    if let Some(date) = dates().find(|&date| share_library::calls::day(date) != dated(calendar::day_of(date))) {
         return Err(format!("the day of date {date} differs"));
     }
     let right = dates().filter(|&date| calendar::day_of(date).is_some()).count();
     if right as u64 != calendar::DAYS {
         return Err(format!("{right} dates are right"));
     }
+    let entries = compare_changeovers()?;
     Ok(format!(
-        "quarters and dates of {} days, the days of {} numbers, {right} of them dates",
+        "quarters and dates of {} days, the days of {} numbers, {right} of them dates, {entries} changeovers and their printed table",
         calendar::DAYS,
         dates().count()
     ))

@@ -2,7 +2,7 @@
 //!
 //!     runs program [SEED [COUNT]]     inputs through program share, byte for byte
 //!     runs library [SEED [COUNT]]     rounds of calls through the library
-//!     runs calendar                   every day and date
+//!     runs calendar                   every day, date and changeover
 //!     runs soak [SEED [COUNT]]        one service for years, against the book
 //!
 //! A failure prints its seed; the same command with that seed and a count of 1 shows it again, or, of the soak, with

@@ -24,18 +24,20 @@ const JOURNAL: usize = 3000;
 /// The answers that a text can have: 14, 15 and 16 are refusals of calls that the program never makes.
 const ANSWERS: std::ops::RangeInclusive<usize> = 0..=13;
 
-/// The program that `rt` proved and built.
-fn program() -> PathBuf {
-    Path::new(env!("CARGO_MANIFEST_DIR")).join("../../target/bin/share")
+/// A program that `rt` proved and built, by its name.
+pub fn program(name: &str) -> PathBuf {
+    Path::new(env!("CARGO_MANIFEST_DIR"))
+        .join("../../target/bin")
+        .join(name)
 }
 
-/// What the program writes for an input.
-fn written(program: &Path, input: &[u8]) -> Vec<u8> {
+/// What a program writes for an input.
+pub fn written(program: &Path, input: &[u8]) -> Vec<u8> {
     let mut child = Command::new(program)
         .stdin(Stdio::piped())
         .stdout(Stdio::piped())
         .spawn()
-        .unwrap_or_else(|error| panic!("{}: {error}; `rt check share` builds it", program.display()));
+        .unwrap_or_else(|error| panic!("{}: {error}; `rt check` builds it", program.display()));
     // The program reads its input before it writes, and ends early where there is too much of it.
     let _ = child.stdin.take().expect("a pipe").write_all(input);
     let mut output = Vec::new();
@@ -143,7 +145,7 @@ the second implementation:
 
 /// Compares so many inputs, the first one that of the seed.
 pub fn compare(seed: u64, count: u64) -> Result<String, String> {
-    let program = program();
+    let program = program("share");
     let mut answers = [0; 17];
     for seed in seed..seed + count {
         let input = input(&mut Random::new(seed));

@@ -1,4 +1,6 @@
-//! The days from 2024 to 2099, their dates and their quarters.
+//! The days from 2024 to 2099, their dates, their quarters and their changeovers.
+
+use crate::columns;
 
 /// How many days the calendar has.
 pub const DAYS: u64 = 27759;
@@ -11,6 +13,9 @@ const LAST_YEAR: u64 = 2099;
 
 /// The days of four years, the first of them a leap year.
 const FOUR_YEARS: u64 = 4 * 365 + 1;
+
+/// The width of the column in which a changeover day is written.
+const CHANGEOVER_WIDTH: usize = 6;
 
 /// The days of each month in a common year.
 const MONTHS: [u64; 12] = [31, 28, 31, 30, 31, 30, 31, 31, 30, 31, 30, 31];
@@ -30,6 +35,19 @@ fn month_length(year: u64, month: u64) -> u64 {
 fn year_start(year: u64) -> u64 {
     let passed = year - FIRST_YEAR;
     passed * 365 + passed.div_ceil(4)
+}
+
+/// Gives the number of the first day of a month, counted from 1, in a year of the calendar.
+fn month_start(year: u64, month: u64) -> u64 {
+    let months: u64 = (1..month).map(|earlier| month_length(year, earlier)).sum();
+    year_start(year) + months
+}
+
+/// Gives the number of the last Sunday of a month, counted from 1, in a year of the calendar.
+fn last_sunday(year: u64, month: u64) -> u64 {
+    let last = month_start(year, month) + month_length(year, month) - 1;
+    let since_sunday = (last + 1) % 7;
+    last - since_sunday
 }
 
 /// Splits a day of the calendar into year, month and day of the month.
@@ -71,8 +89,7 @@ pub fn day_of(date: u64) -> Option<u64> {
     if in_month < 1 || in_month > month_length(year, month) {
         return None;
     }
-    let months: u64 = (1..month).map(|earlier| month_length(year, earlier)).sum();
-    Some(year_start(year) + months + in_month - 1)
+    Some(month_start(year, month) + in_month - 1)
 }
 
 /// Gives the date of a day as the number YYYYMMDD, or nothing for a day outside the calendar.
@@ -82,6 +99,28 @@ pub fn date_of(day: u64) -> Option<u64> {
     }
     let (year, month, in_month) = civil(day);
     Some(year * 10000 + month * 100 + in_month)
+}
+
+/// Gives the changeover days of the calendar, for each year that of March and then that of October.
+pub fn changeovers() -> Vec<u64> {
+    (FIRST_YEAR..=LAST_YEAR)
+        .flat_map(|year| [last_sunday(year, 3), last_sunday(year, 10)])
+        .collect()
+}
+
+/// Gives the changeover day of a number, counted from 0, or nothing beyond the last.
+pub fn changeover(number: u64) -> Option<u64> {
+    changeovers().get(usize::try_from(number).ok()?).copied()
+}
+
+/// Gives the changeover days as a text, one right-justified number per line.
+pub fn changeover_text() -> Vec<u8> {
+    let mut text = Vec::new();
+    for day in changeovers() {
+        columns::put(&mut text, day, CHANGEOVER_WIDTH);
+        text.push(b'\n');
+    }
+    text
 }
 
 #[cfg(test)]
@@ -116,6 +155,49 @@ mod tests {
                 _ => 96,
             };
             assert_eq!(quarters(day), Some(expected));
+        }
+    }
+
+    #[test]
+    fn changeovers_rise_from_the_first_year_to_the_last() {
+        let table = changeovers();
+        assert_eq!(table.len(), 152);
+        assert_eq!(table[..2], [90, 300]);
+        assert!(table.is_sorted_by(|earlier, later| earlier < later));
+        assert_eq!(date_of(table[151]), Some(20991025));
+    }
+
+    #[test]
+    fn changeovers_are_the_days_of_other_lengths() {
+        let table = changeovers();
+        for (first, length) in [(0, 92), (1, 100)] {
+            let listed: Vec<u64> = table.iter().copied().skip(first).step_by(2).collect();
+            let found: Vec<u64> = (0..DAYS).filter(|&day| quarters(day) == Some(length)).collect();
+            assert_eq!(listed, found);
+        }
+        for day in 0..DAYS {
+            assert_eq!(table.contains(&day), quarters(day) != Some(96));
+        }
+    }
+
+    #[test]
+    fn changeovers_are_given_by_number() {
+        for (number, day) in (0..).zip(changeovers()) {
+            assert_eq!(changeover(number), Some(day));
+        }
+        for beyond in [152, 153, u64::from(u32::MAX) + 1, u64::MAX] {
+            assert_eq!(changeover(beyond), None);
+        }
+    }
+
+    #[test]
+    fn changeovers_are_written_one_per_line() {
+        let text = changeover_text();
+        assert!(text.starts_with(b"    90\n   300\n"));
+        assert_eq!(text.len(), 152 * 7);
+        for (line, day) in text.chunks(7).zip(changeovers()) {
+            assert_eq!(line[6], b'\n');
+            assert_eq!(columns::number(&line[..6]), Some(day));
         }
     }
 
