@@ -73,9 +73,13 @@ reads() {
 
 calls=$(listed "The calls")
 texts=$(listed "Text and program")
+table=$(listed "Changeover days")
 reads 950 1050 "$calls" "$calls"
 reads 550 650 "$texts" "$calls
 $texts"
+reads 50 70 "$table" "$calls
+$texts
+$table"
 
 # No two definitions of specs/ have one name, whatever their crates.
 while read -r name; do

@@ -1,6 +1,7 @@
 #!/usr/bin/env bash
 # Faults planted in a copy of the second implementation, one at a time: a run has to find each, by a difference that it reports and nothing else. A run that
-# breaks off, by a panic say, has found nothing, and fails the test. The soak sees only those that the book has too. A fault is a file
+# breaks off, by a panic say, has found nothing, and fails the test. The soak sees only those that the book has too, and one that the run over the calendar
+# finds is not looked for elsewhere. A fault is a file
 # tests/planted/NAME.edit: a sentence, the file, and the text that stands there once with the one that replaces it, as in the must-fail edits.
 set -u
 cd "$(dirname "$0")/.." || exit 1
@@ -39,12 +40,13 @@ for edit in tests/planted/*.edit; do
     fi
     found=
     broken=
-    for run in program library "soak 1 20000"; do
+    for run in calendar program library "soak 1 20000"; do
         # shellcheck disable=SC2086
         "$folder/cargo/checked/runs" $run >"$folder/out" 2>&1
         status=$?
         if [ "$status" -eq 1 ] && grep -qE 'differ|, the book' "$folder/out" && ! grep -q 'panicked at' "$folder/out"; then
             found="$found ${run%% *}"
+            [ "$run" = calendar ] && break
         elif [ "$status" -ne 0 ]; then
             broken="$broken ${run%% *}"
             echo "planted.sh: $name: the run ${run%% *} ends with status $status and reports no difference:"

@@ -41,7 +41,9 @@ fn dated(found: Option<u64>) -> Dated {
 fn compare_changeovers() -> Result<u64, String> {
     let entries = calendar::changeovers().len() as u64;
     if entries != share_library::CHANGEOVERS {
-        return Err(format!("the second implementation has {entries} changeovers"));
+        return Err(format!(
+            "the number of changeovers differs: the second implementation has {entries}"
+        ));
     }
     let places = (0..entries + 1000).chain([1 << 16, 1 << 32, 1 << 63, u64::MAX]);
     for place in places {
@@ -50,7 +52,7 @@ fn compare_changeovers() -> Result<u64, String> {
         }
     }
     if program::written(&program::program("changeovers"), b"") != calendar::changeover_text() {
-        return Err("program changeovers prints another table".to_string());
+        return Err("the table that program changeovers prints differs".to_string());
     }
     Ok(entries)
 }
