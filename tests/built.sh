@@ -11,5 +11,11 @@ stands() {
 bash share.sh tests/share/list.in >/dev/null || exit 1
 # Where the note stands, rt builds no program.
 [ -x target/bin/changeovers ] || rm -f target/stamp/changeovers
-stands target/bin/changeovers || rt check changeovers || exit 1
+if ! stands target/bin/changeovers; then
+    began=$(mktemp) || exit 1
+    rt check changeovers || exit 1
+    # Where only crates have changed that the program does not stand on, rt builds nothing. A file altered meanwhile is newer than the time at which this began.
+    touch -r "$began" target/bin/changeovers
+    rm "$began"
+fi
 stands target/staticlib/libshare_c.a || rt staticlib share_c || exit 1

@@ -1,7 +1,7 @@
 #!/usr/bin/env bash
 # The static library for C and Rust: it is proved and built, its header is compiled as C and as C++, and the example programs of both languages are built
-# and run. Each has to write what program `share` writes for case LIST. Header and Rust package give a result the room that crates/evaluation has proved enough,
-# and the table of changeover days as many entries as crates/calendar has.
+# and run. Each has to write what program `share` writes for case LIST, or what program `changeovers` writes. Header and Rust package give a result the room
+# that crates/evaluation has proved enough, and the table of changeover days as many entries as crates/calendar has.
 set -u
 cd "$(dirname "$0")/.." || exit 1
 bash tests/built.sh || exit 1
@@ -12,12 +12,12 @@ trap 'rm -rf "$folder"' EXIT
 strict="-Wall -Wextra -Werror -pedantic"
 failed=0
 
-# One example: its name, then the command that runs it.
+# One example: its language, the file with what it has to write, then the command that runs it.
 run() {
-    local name=$1
-    shift
-    if ! "$@" >"$folder/out" || ! cmp "$folder/out" tests/share/list.out; then
-        echo "library.sh: the example in $name does not write what case LIST gives"
+    local language=$1 expected=$2
+    shift 2
+    if ! "$@" >"$folder/out" || ! cmp "$folder/out" "$expected"; then
+        echo "library.sh: an example in $language does not write what $expected has"
         failed=1
     fi
 }
@@ -42,14 +42,20 @@ same() {
 }
 
 same resultMost crates/evaluation/specs/Layout.antt RESULT_MOST crates/evaluation/src/lib.rt RESULT_MOST $home/share.h RESULT_MOST $home/rust/src/lib.rs
-same changeoverCount crates/calendar/specs/Changeovers.antt CHANGEOVERS $home/share.h CHANGEOVERS $home/rust/src/lib.rs
+same changeoverCount crates/calendar/specs/Changeovers.antt CHANGEOVER_COUNT $home/share.h CHANGEOVER_COUNT $home/rust/src/lib.rs
 same TEXT_MOST $home/share.h TEXT_MOST $home/rust/src/lib.rs
 
-# shellcheck disable=SC2086
-cc -std=c99 $strict -O2 -I $home $home/examples/list.c target/staticlib/libshare_c.a -o "$folder/list" || failed=1
+# The examples of one name, in C and in Rust, and the file with what they have to write.
+both() {
+    # shellcheck disable=SC2086
+    cc -std=c99 $strict -O2 -I $home "$home/examples/$1.c" target/staticlib/libshare_c.a -o "$folder/$1" || failed=1
+    run C "$2" "$folder/$1"
+    run Rust "$2" cargo run --quiet --offline --release --manifest-path $home/rust/Cargo.toml --target-dir target/cargo --example "$1"
+}
+
 # shellcheck disable=SC2086
 c++ $strict -fsyntax-only -x c++ $home/share.h || failed=1
-run C "$folder/list"
-run Rust cargo run --quiet --offline --release --manifest-path $home/rust/Cargo.toml --target-dir target/cargo --example list
+both list tests/share/list.out
+both changeovers crates/changeovers/stdout
 
-[ "$failed" -eq 0 ] && echo "library.sh: case LIST through the library, in C and in Rust"
+[ "$failed" -eq 0 ] && echo "library.sh: case LIST and the changeover days through the library, in C and in Rust"

@@ -58,7 +58,7 @@ enum {
 #define SHARE_RESULT_MOST 359
 
 /* How many entries the table of changeover days has: two for each year from 2024 to 2099. */
-#define SHARE_CHANGEOVERS 152
+#define SHARE_CHANGEOVER_COUNT 152
 
 /*
  * A group. Points stand from 0, producers first; `codes` and `statuses` are by point, `counts` by consumer. The producers that consumer c
@@ -179,9 +179,9 @@ struct share_evaluate_answer share_evaluate(struct share_service service, const 
 struct share_day_answer share_day(uint64_t date);
 
 /*
- * The day at a place of the table of changeover days; places count from 0, and the days rise. At an even place stands the last Sunday of
- * March, a day of 92 quarter hours, at the odd place after it that of October of the same year, a day of 100; no other day has 92 or 100.
- * Refused by 9 from place SHARE_CHANGEOVERS on.
+ * The day at a place of the table of changeover days; places count from 0. At an even place stands the last Sunday of March, a day of 92
+ * quarter hours, at the odd place after it that of October of the same year, a day of 100; no other day has 92 or 100. Refused by 9 from
+ * place SHARE_CHANGEOVER_COUNT on.
  */
 struct share_day_answer share_changeover(uint64_t place);
 

@@ -1,7 +1,6 @@
 -- The table of changeover days: the rule over the whole table, computed, and the rule at each entry. Assumes nothing.
 use Prim.Native.Nat.{ℕ, _+_, _*_, _/_, _%_, _≤_, _<_}
 use mathlib.Core.Path.{_≡_, refl, _∙_}
-use mathlib.Core.Bool.{true}
 use native.Mathlib.Omega.{arith}
 use borrow.Author.Tests.{eqb-true}
 use lib.Dec.{eqb}
@@ -12,13 +11,14 @@ use Rattle.calendar.specs.Civil.{yearLength, monthLength, daysBeforeYear
 use Rattle.calendar.specs.Dates.{lastDay, yearOf}
 use Rattle.calendar.specs.Quarters.{lastSunday}
 use Rattle.calendar.specs.Changeovers.{changeoverCount, changeovers, changeoverDay, changeoverYear, changeoverMonth, byLastSundays}
+use Rattle.calendar.specs.Laws.{TableByLastSundays}
 use Rattle.calendar.proofs.Places.{in-year}
 
 pub entry-count : length changeovers ≡ changeoverCount
 unfolding changeovers
 entry-count = refl
 
-by-rule : byLastSundays ≡ true
+pub by-rule : TableByLastSundays
 unfolding byLastSundays every changeovers lastSunday yearLength monthLength daysBeforeYear daysBeforeMonth
 by-rule = refl
 

@@ -13,7 +13,7 @@ use Rattle.calendar.specs.Dates.{lastDay, yearOf}
 use Rattle.calendar.proofs.Sequences.{Between}
 use Rattle.calendar.proofs.Places.{year-is}
 
--- one test over the first years, up to the last day's
+-- one test, over 0 to 76 years
 four-years : every (λ n. eqb (daysBeforeYear n) ((n * 1461 + 3) / 4)) 77 ≡ true
 unfolding every daysBeforeYear yearLength
 four-years = refl

@@ -37,7 +37,7 @@ changeovers =
     26382 ∷ 26599 ∷ 26753 ∷ 26963 ∷ 27117 ∷ 27327 ∷ 27481 ∷ 27691 ∷
     []
 
--- the entry at a place, counted from 0
+-- the entry at a place, counted from 0; 0 beyond the last, where nothing asks for it
 abbrev pub changeoverDay : ℕ → ℕ
 changeoverDay place = getD changeovers place 0
 

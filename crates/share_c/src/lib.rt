@@ -1,4 +1,4 @@
-// The static library: the calls of a service, and the text of a registration, for C and Rust. Answers are records of numbers, and no call asks anything of its arguments.
+// The static library: the calls of a service, the text of a registration, and days, dates and changeover days, for C and Rust. Answers are records of numbers, and no call asks anything of its arguments.
 ghost use mathlib.Core.Path.{_≡_};
 ghost use Rattle.calendar.specs.Dates.{dayOf, dateOf};
 ghost use Rattle.calendar.specs.Quarters.{quartersOf};
@@ -219,7 +219,7 @@ pub extern "C" fn share_day(date: u64) -> Dated
     day_answer(calendar::day_of(date))
 }
 
-// The day at a place of the table of changeover days, counted from 0: that of March at an even place, that of October at an odd one.
+// The day at a place of the table of changeover days; places count from 0, March stands at the even ones and October at the odd ones.
 #[no_mangle]
 pub extern "C" fn share_changeover(place: u64) -> Dated
     ensures { λ r. ⌜ r ≡ dayAnswer (changeoverAt place) ⌝ }

@@ -38,7 +38,7 @@ pub fn written(program: &Path, input: &[u8]) -> Vec<u8> {
         .stdout(Stdio::piped())
         .spawn()
         .unwrap_or_else(|error| panic!("{}: {error}; `rt check` builds it", program.display()));
-    // The program reads its input before it writes, and ends early where there is too much of it.
+    // Program `share` reads its input before it writes, and ends early where there is too much of it.
     let _ = child.stdin.take().expect("a pipe").write_all(input);
     let mut output = Vec::new();
     child

@@ -141,7 +141,7 @@ pub fn day(date: u64) -> Dated {
     unsafe { share_day(date) }
 }
 
-/// The day at a place of the table of changeover days, counted from 0.
+/// The day at a place of the table of changeover days; places count from 0.
 pub fn changeover(place: u64) -> Dated {
     unsafe { share_changeover(place) }
 }

@@ -15,7 +15,7 @@ pub const TEXT_MOST: usize = 4552;
 pub const RESULT_MOST: usize = 359;
 
 /// The table of changeover days has so many entries, two for each year from 2024 to 2099.
-pub const CHANGEOVERS: u64 = 152;
+pub const CHANGEOVER_COUNT: u64 = 152;
 
 /// A group: its points, producers first, and who names whom with which key. What is not used is 0.
 ///
@@ -127,8 +127,9 @@ pub fn day(date: u64) -> Result<u64, Refusal> {
     Refusal::unless(dated.answer, dated.day)
 }
 
-/// The day at a place of the table of changeover days, counted from 0: the last Sunday of March, a day of 92 quarter
-/// hours, at an even place, that of October of the same year, a day of 100, at the odd place after it.
+/// The day at a place of the table of changeover days; places count from 0. At an even place stands the last Sunday of
+/// March, a day of 92 quarter hours, at the odd place after it that of October of the same year, a day of 100. Refused by
+/// `NoSuchDay` from place [`CHANGEOVER_COUNT`] on.
 pub fn changeover(place: u64) -> Result<u64, Refusal> {
     let dated = calls::changeover(place);
     Refusal::unless(dated.answer, dated.day)
