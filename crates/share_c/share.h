@@ -40,7 +40,7 @@ enum {
     SHARE_PRODUCER_OR_KEY_WRONG = 6,      /* a producer's number is unknown or twice on one line, or a key is outside 1 to 10000 */
     SHARE_KEYS_ABOVE = 7,                 /* a producer's keys sum to more than 10000 */
     SHARE_CODE_NOT_IN_GROUP = 8,          /* the code is not one of the group's */
-    SHARE_NO_SUCH_DAY = 9,                /* there is no such date or day, or the day has no such quarter */
+    SHARE_NO_SUCH_DAY = 9,                /* there is no such date, day or changeover day, or the day has no such quarter */
     SHARE_VALUE_WRONG = 10,               /* a negative value for a producer, a positive one for a consumer, or one above 99999999 in size */
     SHARE_DAY_CLEARED = 11,               /* the day is cleared, or one of the four weeks before an evaluated day may be */
     SHARE_STAMP_OUTSIDE = 12,             /* the stamp of an evaluation or of a clear is below the kept stamp or above the last one */
@@ -179,9 +179,9 @@ struct share_evaluate_answer share_evaluate(struct share_service service, const 
 struct share_day_answer share_day(uint64_t date);
 
 /*
- * The day at a place of the table of changeover days; places count from 0. At an even place stands the last Sunday of March, a day of 92
- * quarter hours, at the odd place after it that of October of the same year, a day of 100; no other day has 92 or 100. Refused by 9 from
- * place SHARE_CHANGEOVER_COUNT on.
+ * The day at a place of the table of changeover days; places count from 0. At place 2n stands the last Sunday of March of the year 2024 + n,
+ * a day of 92 quarter hours, at place 2n + 1 that of October, a day of 100; no other day has 92 or 100. Refused by 9 from place
+ * SHARE_CHANGEOVER_COUNT on.
  */
 struct share_day_answer share_changeover(uint64_t place);
 

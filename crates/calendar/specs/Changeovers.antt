@@ -1,9 +1,9 @@
 -- The table of changeover days: the days on which clocks change, from 2024 to 2099, that of March and that of October in turn. Assumes nothing.
 use Prim.Native.Nat.{ℕ, _+_, _/_, _%_}
-use mathlib.Core.Bool.{Bool, cond}
+use mathlib.Core.Bool.{Bool, cond, _&&_}
 use mathlib.Core.List.{List, [], _∷_}
 use lib.Dec.{ltb, eqb}
-use lib.ListN.{getD}
+use lib.ListN.{length, getD}
 use Rattle.lists.specs.Below.{every}
 use Rattle.calendar.specs.declared.Day.{Day}
 use Rattle.calendar.specs.Dates.{dayIf}
@@ -13,7 +13,7 @@ use Rattle.calendar.specs.Quarters.{lastSunday}
 abbrev pub changeoverCount : ℕ
 changeoverCount = 152
 
--- the entries, as numbers of days
+-- the entries, as days counted from 1 January 2024, which is day 0
 unfoldable pub changeovers : List ℕ
 changeovers =
     90 ∷ 300 ∷ 454 ∷ 664 ∷ 818 ∷ 1028 ∷ 1182 ∷ 1399 ∷
@@ -53,6 +53,8 @@ changeoverYear place = 2024 + place / 2
 abbrev pub changeoverMonth : ℕ → ℕ
 changeoverMonth place = cond (eqb (place % 2) 0) 3 10
 
--- the rule over the whole table: at every place stands the last Sunday of its month
+-- the rule over the whole table: it has 152 entries, and at each of its places stands the last Sunday of the place's month and year
 unfoldable pub byLastSundays : Bool
-byLastSundays = every (λ place. eqb (changeoverDay place) (lastSunday (changeoverYear place) (changeoverMonth place))) changeoverCount
+byLastSundays =
+    eqb (length changeovers) changeoverCount
+    && every (λ place. eqb (changeoverDay place) (lastSunday (changeoverYear place) (changeoverMonth place))) changeoverCount

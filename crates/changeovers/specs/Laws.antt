@@ -7,7 +7,7 @@ use Rattle.columns.specs.Column.{numberIn}
 use Rattle.calendar.specs.Changeovers.{changeoverDay}
 use Rattle.changeovers.specs.Text.{changeoverLine}
 
--- each line has seven bytes: six in which the entry is read, a leading space among them, and LF
+-- each line has seven bytes: six that are read as the entry by the rule for columns, so with a leading space, and LF
 abbrev pub LinesReadBack : Type 0
 LinesReadBack =
     (place : ℕ) → place < 152

@@ -127,9 +127,9 @@ pub fn day(date: u64) -> Result<u64, Refusal> {
     Refusal::unless(dated.answer, dated.day)
 }
 
-/// The day at a place of the table of changeover days; places count from 0. At an even place stands the last Sunday of
-/// March, a day of 92 quarter hours, at the odd place after it that of October of the same year, a day of 100. Refused by
-/// `NoSuchDay` from place [`CHANGEOVER_COUNT`] on.
+/// The day at a place of the table of changeover days; places count from 0. At place 2n stands the last Sunday of March
+/// of the year 2024 + n, a day of 92 quarter hours, at place 2n + 1 that of October, a day of 100. Refused by `NoSuchDay`
+/// from place [`CHANGEOVER_COUNT`] on.
 pub fn changeover(place: u64) -> Result<u64, Refusal> {
     let dated = calls::changeover(place);
     Refusal::unless(dated.answer, dated.day)

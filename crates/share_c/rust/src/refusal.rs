@@ -73,7 +73,7 @@ impl fmt::Display for Refusal {
             }
             Refusal::KeysAbove => "a producer's keys sum to more than 10000",
             Refusal::CodeNotInGroup => "the code is not one of the group's",
-            Refusal::NoSuchDay => "there is no such date or day, or the day has no such quarter",
+            Refusal::NoSuchDay => "there is no such date, day or changeover day, or the day has no such quarter",
             Refusal::ValueWrong => {
                 "a negative value for a producer, a positive one for a consumer, or one above 99999999 in size"
             }

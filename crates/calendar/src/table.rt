@@ -1,6 +1,6 @@
 // The table of changeover days.
 
-// The days on which clocks change, from 2024 to 2099, that of March and that of October in turn.
+// The days on which clocks change, from 2024 to 2099, that of March and that of October in turn, counted from 1 January 2024, which is day 0.
 pub const CHANGEOVERS: [u16; 152] = [
     90,
     300,
