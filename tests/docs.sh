@@ -73,13 +73,13 @@ reads() {
 
 calls=$(listed "The calls")
 texts=$(listed "Text and program")
-table=$(listed "Changeover days")
+changeovers=$(listed "Changeover days")
 reads 950 1050 "$calls" "$calls"
 reads 550 650 "$texts" "$calls
 $texts"
-reads 50 70 "$table" "$calls
+reads 50 70 "$changeovers" "$calls
 $texts
-$table"
+$changeovers"
 
 # No two definitions of specs/ have one name, whatever their crates.
 while read -r name; do

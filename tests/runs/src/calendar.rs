@@ -38,8 +38,8 @@ fn dated(found: Option<u64>) -> Dated {
 }
 
 /// Compares every entry of the table of changeovers, the places beyond the last, and the printed table. Tells how many
-/// entries there are.
-fn compare_changeovers() -> Result<u64, String> {
+/// places were answered by a day, and how many by 9.
+fn compare_changeovers() -> Result<(u64, u64), String> {
     let entries = calendar::changeovers().len() as u64;
     if entries != share_library::CHANGEOVER_COUNT {
         return Err(format!(
@@ -47,8 +47,10 @@ fn compare_changeovers() -> Result<u64, String> {
         ));
     }
     let places = (0..entries + 1000).chain([1 << 16, 1 << 32, 1 << 63, u64::MAX]);
+    let mut refused = 0;
     for place in places {
         let expected = calendar::changeover(place);
+        refused += u64::from(expected.is_none());
         let same = share_library::calls::changeover(place) == dated(expected)
             && share_library::changeover(place) == expected.ok_or(Refusal::NoSuchDay);
         if !same {
@@ -58,7 +60,7 @@ fn compare_changeovers() -> Result<u64, String> {
     if program::written(&program::program("changeovers"), b"") != calendar::changeover_text() {
         return Err("the table that program changeovers prints differs".to_string());
     }
-    Ok(entries)
+    Ok((entries, refused))
 }
 
 /// Compares all days, dates and changeovers.
@@ -77,9 +79,9 @@ pub fn compare() -> Result<String, String> {
     if right as u64 != calendar::DAYS {
         return Err(format!("{right} dates are right"));
     }
-    let entries = compare_changeovers()?;
+    let (entries, refused) = compare_changeovers()?;
     Ok(format!(
-        "quarters and dates of {} days, the days of {} numbers, {right} of them dates, {entries} changeovers and their printed table",
+        "quarters and dates of {} days, the days of {} numbers, {right} of them dates, {entries} changeovers, {refused} places refused by 9, the printed table",
         calendar::DAYS,
         dates().count()
     ))
