@@ -8,7 +8,7 @@ use lib.Dec.{leb, ltb}
 use borrow.Author.Tests.{lt-ltb, le-ltb, le-leb, lt-leb}
 use Rattle.lists.proofs.Below.{and-late}
 use Rattle.calendar.specs.Quarters.{quarterExists}
-use Rattle.values.specs.Values.{magnitudeMost}
+use Rattle.journal.specs.Value.{storedRight}
 use Rattle.journal.specs.Entries.{Entry, pointIn, dayIn, quarterIn, pointPlaces}
 use Rattle.journal.specs.Stored.{entryAt, entries}
 use Rattle.journal.specs.Damage.{entryRight, entriesRight}
@@ -53,17 +53,15 @@ module _ (points K : ℕ) (e : Entry) where
   unfolding entryRight
   wrong-day h = second-fails (ltb (pointIn (e .place)) points) _ _ _ (lt-leb K (dayIn (e .place)) h)
 
-  pub wrong-stored : magnitudeMost < e .stored → false ≡ entryRight points K e
+  pub wrong-stored : storedRight (e .stored) ≡ false → false ≡ entryRight points K e
   unfolding entryRight
   wrong-stored h =
-      fourth-fails (ltb (pointIn (e .place)) points) (leb K (dayIn (e .place))) (quarterExists (dayIn (e .place)) (quarterIn (e .place))) _
-      (lt-leb (e .stored) magnitudeMost h)
+      fourth-fails (ltb (pointIn (e .place)) points) (leb K (dayIn (e .place))) (quarterExists (dayIn (e .place)) (quarterIn (e .place))) _ h
 
-  pub quarter-left : pointIn (e .place) < points → K ≤ dayIn (e .place) → e .stored ≤ magnitudeMost
+  pub quarter-left : pointIn (e .place) < points → K ≤ dayIn (e .place) → storedRight (e .stored) ≡ true
       → quarterExists (dayIn (e .place)) (quarterIn (e .place)) ≡ entryRight points K e
   unfolding entryRight
-  quarter-left p q s =
-      third-left _ _ _ _ (lt-ltb (pointIn (e .place)) points p) (le-leb K (dayIn (e .place)) q) (le-leb (e .stored) magnitudeMost s)
+  quarter-left p q s = third-left _ _ _ _ (lt-ltb (pointIn (e .place)) points p) (le-leb K (dayIn (e .place)) q) s
 
 -- ---- one entry, by its place alone: the first place that is no point's, and the first of the kept day
 module _ (points K place : ℕ) where
