@@ -67,7 +67,7 @@ value-small T readings each none = tt
 value-small T readings each (some slot) = shown-small T (readings (slot .day) (slot .quarter)) (each (slot .day) (slot .quarter))
 
 -- so the magnitude of a point is within
-magnitude-small : (status : ℕ) (readings : ℕ → ℕ → List Reading) → ((day quarter : ℕ) → AllSmall (readings day quarter)) → (day quarter T : ℕ)
+pub magnitude-small : (status : ℕ) (readings : ℕ → ℕ → List Reading) → ((day quarter : ℕ) → AllSmall (readings day quarter)) → (day quarter T : ℕ)
     → magnitudeOf status readings day quarter T ≤ magnitudeMost
 unfolding magnitudeOf
 magnitude-small status readings each day quarter T =

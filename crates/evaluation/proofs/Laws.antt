@@ -26,12 +26,12 @@ use Rattle.evaluation.specs.Evaluation.{evaluationOf}
 use Rattle.registration.specs.Pairs.{pairsBefore, pairsIn}
 use Rattle.evaluation.specs.Layout.{Shares, Withdrawals, Supplies, resultOf, HasLengths}
 use Rattle.evaluation.specs.Laws.{MeanIsNearest, MeanOfNone, ReadingCounts, MissingCountsZero, MissingIsMean, PartLengths, ResultSize, PartsStand, pairNumber, ResultKeepsSupplies, ResultKeepsWithdrawals, ResultWithinMost}
-use Rattle.evaluation.proofs.Nearest.{nearest-by-halves}
+use Rattle.evaluation.proofs.Nearest.{mean-by, nearest-by-halves}
 use Rattle.evaluation.proofs.Missing.{weeks-exist}
 use Rattle.evaluation.proofs.Parts.{shares-there, size-of-parts, part-stands, number-stands}
 
 pub mean-is-nearest : MeanIsNearest
-mean-is-nearest values h = nearest-by-halves (sumOf values) (length values) h
+mean-is-nearest values h = rw (mean-by values) (nearest-by-halves (sumOf values) (length values) h)
 
 pub mean-of-none : MeanOfNone
 unfolding sumOf nearest

@@ -1,10 +1,16 @@
--- The nearest whole number by the quotient and what is left over. Assumes nothing.
+-- The nearest whole number by the quotient and what is left over; a mean is that of a sum and a number of values. Assumes nothing.
 use Prim.Native.Nat.{ℕ, _+_, _-_, _*_, _/_, _%_, _≤_, _<_}
-use mathlib.Core.Path.{_≡_, _∙_}
+use mathlib.Core.Path.{_≡_, ap, _∙_}
+use mathlib.Core.List.{List}
 use native.Mathlib.Nat.{mul-comm, mul-left-comm, add-mul, mul-div-le, lt-mul-div-succ, div-add-mod, mod-lt, div-eq-of-lt-le, mul-le-mul}
 use native.Mathlib.Omega.{arith}
+use lib.ListN.{length}
 use borrow.Author.Tests.{ne-eqb}
-use Rattle.evaluation.specs.Mean.{nearest}
+use Rattle.evaluation.specs.Mean.{sumOf, nearest, meanOf}
+
+-- the mean of values is of their sum and their number
+pub mean-by : (values : List ℕ) → meanOf values ≡ nearest (sumOf values) (length values)
+mean-by values = ap (λ (count : ℕ). nearest (sumOf values) count) (omega arith)
 
 -- twice a product, its factors in another order
 doubled : (q c : ℕ) → q * (2 * c) ≡ 2 * (c * q)

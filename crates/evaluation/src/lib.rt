@@ -1,5 +1,5 @@
-// The evaluation of a quarter hour as of a stamp: the readings of all points, those of the four earlier weeks included, are gathered from the
-// journal in a working table; missing readings get their substitutes; the magnitudes are allocated; the allocation is put into a result list.
+// The evaluation of a quarter hour as of a stamp: what each point's own quarter hour shows is gathered in one pass over the journal; where there is
+// no reading the point's value is looked up in the earlier weeks; the magnitudes are allocated; the allocation is put into a result list.
 ghost use mathlib.Core.Path.{_≡_};
 ghost use mathlib.Core.Bool.{true};
 ghost use Prim.Native.Nat.{_*_, _≤_, _<_};
@@ -15,21 +15,15 @@ ghost use Rattle.values.specs.Values.{magnitudeMost};
 ghost use Rattle.allocation.specs.Input.{Shareable};
 ghost use Rattle.allocation.specs.Result.{pairsOf, allocationOf};
 ghost use Rattle.allocation.specs.Working.{allocationIn};
-ghost use Rattle.evaluation.specs.Mean.{nearest, meanOf};
-ghost use Rattle.evaluation.specs.Substitutes.{existing};
 ghost use Rattle.evaluation.specs.Evaluation.{magnitudesIn};
 ghost use Rattle.evaluation.specs.Layout.{sizeOf, resultOf, LaidOut, ResultPut};
-ghost use Rattle.evaluation.specs.Working.{weeksOf, magnitudeIn, Within, TakenIn, Gathered, AllOf};
+ghost use Rattle.evaluation.specs.Working.{Readable, TakenIn, OwnOf, AllOf};
 use allocation::Allocated;
+use lookup::Asked;
+use lookup::magnitude;
 use registration::Registration;
 
-// The quarter hour itself and the four earlier weeks.
-pub const WEEKS: usize = 5;
-
-// How many places of a point a week has, and the four earlier weeks.
-const WEEK_PLACES: u64 = 700;
-
-const EARLIER_PLACES: u64 = 4 * WEEK_PLACES;
+mod lookup;
 
 // The most numbers that the result of an undamaged registration has.
 pub const RESULT_MOST: usize = 359;
@@ -41,113 +35,61 @@ pub struct Layout {
     pub size: usize,
 }
 
-// One entry of the pass: where it is of the quarter hour or of an earlier week, and not later than `until`, the table gets its magnitude plus one.
-// The stamps rise, so of one place a later entry, which is the newer reading, takes the place of an earlier one.
-fn take_in(table: &mut [u64], stamp: u64, place: u64, stored: u64, slot: u64, until: u64)
-    requires { ⌜ (length (now table) ≡ 320) × (place < 64 * pointPlaces) × (stored ≤ magnitudeMost) × (slot < pointPlaces) ⌝ }
-    ensures { λ _. ⌜ TakenIn stamp place stored slot until (now (table .entry)) (now (table .exit)) ⌝ }
+// One entry of the pass over all points: where it is of this quarter hour, and not later than `until`, its point's number is what it stores plus one.
+// The stamps rise, so a later entry, which is the newer reading, takes the place of an earlier one.
+fn take_in(own: &mut [u64], stamp: u64, place: u64, stored: u64, slot: u64, until: u64)
+    requires { ⌜ (length (now own) ≡ 64) × (place < 64 * pointPlaces) × (stored ≤ magnitudeMost) × (slot < pointPlaces) ⌝ }
+    ensures { λ _. ⌜ TakenIn stamp place stored slot until (now (own .entry)) (now (own .exit)) ⌝ }
 {
+    if place % journal::POINT_PLACES != slot {
+        return;
+    }
     if stamp > until {
         return;
     }
-    let at = place % journal::POINT_PLACES;
-    if at > slot {
-        return;
-    }
-    let before = slot - at;
-    if before > EARLIER_PLACES {
-        return;
-    }
-    if before % WEEK_PLACES != 0 {
-        return;
-    }
     let point = (place / journal::POINT_PLACES) as usize;
-    let week = (before / WEEK_PLACES) as usize;
-    table[5 * point + week] = stored + 1;
+    own[point] = stored + 1;
 }
 
-// The working table of all readings as of `until`: five numbers for each point, the quarter hour's own and those of the four earlier weeks; a
-// magnitude plus one, or 0 where there is no reading.
-fn gather(journal: &[u64], count: usize, day: u64, quarter: u64, until: u64) -> [u64; 320]
-    requires { ⌜ (quarterExists day quarter ≡ true) × (3 * count ≤ length (now journal)) × Right (entries count (now journal)) ⌝ }
-    ensures { λ r. ⌜ Gathered (entries count (now (journal .entry))) day quarter until r ⌝ }
+// What each point's own quarter hour shows, in one pass: what is stored plus one, or 0 where there is no reading.
+fn own_readings(journal: &[u64], count: usize, asked: Asked) -> [u64; 64]
+    requires { ⌜ Readable (now journal) count asked ⌝ }
+    ensures { λ r. ⌜ OwnOf (entries count (now (journal .entry))) asked r ⌝ }
 {
-    let slot = day * 100 + (quarter - 1);
-    let mut table = [0; 320];
+    let slot = journal::place(0, asked.day, asked.quarter);
+    let mut own = [0; 64];
     let mut i = 0;
     while i < count {
         let at = 3 * i;
         take_in(
-            &mut table,
+            &mut own,
             journal[at],
             journal[at + 1],
             journal[at + 2],
             slot,
-            until,
+            asked.until,
         );
         i += 1;
     }
-    table
+    own
 }
 
-// The sum of values divided by their count, rounded to the nearest whole number, halves up; 0 where there is none.
-pub fn mean(sum: u64, count: u64) -> u64
-    ensures { λ r. ⌜ r ≡ nearest sum count ⌝ }
+// The magnitudes of all points, producers first: each takes the place of what the point's own quarter hour shows.
+fn magnitudes(
+    journal: &[u64],
+    count: usize,
+    asked: Asked,
+    statuses: [u8; 64],
+    points: usize,
+) -> [u64; 64]
+    requires { ⌜ Readable (now journal) count asked × (points ≤ 64) ⌝ }
+    ensures { λ r. ⌜ AllOf (entries count (now (journal .entry))) asked statuses points r ⌝ }
 {
-    if count == 0 {
-        return 0;
-    }
-    let whole = sum / count;
-    let rest = sum % count;
-    if rest < count - rest {
-        return whole;
-    }
-    whole + 1
-}
-
-// The mean of the values that a point has in the earlier weeks.
-fn mean_of_weeks(table: &[u64; 320], point: usize) -> u64
-    requires { ⌜ Within (now table) × (point < 64) ⌝ }
-    ensures { λ r. ⌜ r ≡ meanOf (existing (weeksOf (now (table .entry)) point)) ⌝ }
-{
-    let mut sum = 0;
-    let mut count = 0;
-    let mut week = 1;
-    while week < WEEKS {
-        let number = table[5 * point + week];
-        if number > 0 {
-            sum += number - 1;
-            count += 1;
-        }
-        week += 1;
-    }
-    mean(sum, count)
-}
-
-// The magnitude of a point: its reading, or the substitute by its status.
-fn magnitude(table: &[u64; 320], point: usize, status: u8) -> u64
-    requires { ⌜ Within (now table) × (point < 64) ⌝ }
-    ensures { λ r. ⌜ r ≡ magnitudeIn (now (table .entry)) point status ⌝ }
-{
-    let number = table[5 * point];
-    if number > 0 {
-        return number - 1;
-    }
-    if status > 0 {
-        return 0;
-    }
-    mean_of_weeks(table, point)
-}
-
-// The magnitudes of all points, producers first.
-fn magnitudes(table: &[u64; 320], statuses: [u8; 64], points: usize) -> [u64; 64]
-    requires { ⌜ Within (now table) × (points ≤ 64) ⌝ }
-    ensures { λ r. ⌜ AllOf (now (table .entry)) statuses points r ⌝ }
-{
-    let mut all = [0; 64];
+    let mut all = own_readings(journal, count, asked);
     let mut point = 0;
     while point < points {
-        all[point] = magnitude(table, point, statuses[point]);
+        let own = all[point];
+        all[point] = magnitude(journal, count, asked, point, statuses[point], own);
         point += 1;
     }
     all
@@ -228,13 +170,14 @@ pub fn evaluate(
     requires { ⌜ Shareable registration × (quarterExists day quarter ≡ true) × (3 * count ≤ length (now journal)) × Right (entries count (now journal)) × (sizeOf registration ≤ length (now result)) ⌝ }
     ensures { λ r. ⌜ ResultPut (allocationOf registration (magnitudesIn registration (entries count (now (journal .entry))) day quarter until)) (now (result .entry)) (now (result .exit)) r ⌝ }
 {
-    let table = gather(journal, count, day, quarter, until);
+    let asked = Asked {
+        day,
+        quarter,
+        until,
+    };
     let statuses = registration.statuses;
-    let all = magnitudes(
-        &table,
-        statuses,
-        registration.producers + registration.consumers,
-    );
+    let points = registration.producers + registration.consumers;
+    let all = magnitudes(journal, count, asked, statuses, points);
     let allocated = allocation::allocate(registration, all);
     put_allocation(result, registration, allocated);
     allocated.rounds

@@ -97,10 +97,12 @@ fn submit_repeat(registration: &Registration, entries: usize) -> Cell {
     )
 }
 
-/// The evaluation, as of the last stamp, of the last quarter hour that has readings of all points.
-fn evaluate(registration: &Registration, entries: usize) -> Cell {
-    let readings = data::readings(registration, entries);
-    let Reading { day, quarter, .. } = readings[entries - registration.points()];
+/// The evaluation, as of the last stamp, of the last quarter hour that all points have passed, in which the first so many of them have no reading: theirs
+/// are left out of the journal.
+fn evaluate_without(name: &'static str, registration: &Registration, entries: usize, missing: usize) -> Cell {
+    let mut readings = data::readings(registration, entries + missing);
+    let Reading { day, quarter, .. } = readings[entries + missing - registration.points()];
+    readings.retain(|reading| (reading.day, reading.quarter) != (day, quarter) || reading.point >= missing);
     let call = Event::Evaluation {
         day,
         quarter,
@@ -112,7 +114,22 @@ fn evaluate(registration: &Registration, entries: usize) -> Cell {
     } else {
         1
     };
-    cell("evaluate", registration, &readings, call, rounds)
+    cell(name, registration, &readings, call, rounds)
+}
+
+/// The evaluation of a quarter hour in which all points have a reading.
+fn evaluate(registration: &Registration, entries: usize) -> Cell {
+    evaluate_without("evaluate", registration, entries, 0)
+}
+
+/// The evaluation of one in which one point has none.
+fn evaluate_one_missing(registration: &Registration, entries: usize) -> Cell {
+    evaluate_without("evaluate, one missing", registration, entries, 1)
+}
+
+/// The evaluation of one in which no point has one.
+fn evaluate_all_missing(registration: &Registration, entries: usize) -> Cell {
+    evaluate_without("evaluate, all missing", registration, entries, registration.points())
 }
 
 /// The clear up to day 0 and the last stamp: it drops the half of the entries that are superseded.
@@ -127,10 +144,12 @@ fn clear(registration: &Registration, entries: usize) -> Cell {
 
 /// All cells, each made when it is asked for, in the order of the table.
 pub fn all() -> impl Iterator<Item = Cell> {
-    let makers: [(Maker, &[usize]); 4] = [
+    let makers: [(Maker, &[usize]); 6] = [
         (submit_new, &[]),
         (submit_repeat, &[]),
         (evaluate, &[]),
+        (evaluate_one_missing, &[]),
+        (evaluate_all_missing, &[]),
         (clear, &[ENTRIES_CLEARED]),
     ];
     makers.into_iter().flat_map(|(make, more)| {

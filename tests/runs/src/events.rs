@@ -180,6 +180,41 @@ fn lone(random: &mut Random, kept: &Kept, slots: &Slots) -> Option<Event> {
     })
 }
 
+/// A reading of a point, by its number, at a quarter and one to four weeks before the first of the slots' days, or on
+/// day 0 where there is no such day; rarely on the first of the days itself, or at any of the slots.
+pub fn of_an_earlier_week(
+    random: &mut Random,
+    service: &Service,
+    slots: &Slots,
+    (point, quarter): (usize, u64),
+) -> Event {
+    if random.one_in(20) {
+        return submission(random, service, slots);
+    }
+    let weeks = if random.one_in(20) { 0 } else { random.between(1, 4) };
+    let magnitude = random.below(100_000) as i64;
+    Event::Submission {
+        clock: clock(random, service.state.last),
+        code: service.registration.codes[point],
+        day: slots.days[0].saturating_sub(7 * weeks),
+        quarter,
+        value: if point < service.registration.producers {
+            magnitude
+        } else {
+            -magnitude
+        },
+    }
+}
+
+/// An evaluation of a quarter on the first of the slots' days.
+pub fn evaluation_of(random: &mut Random, service: &Service, slots: &Slots, quarter: u64) -> Event {
+    Event::Evaluation {
+        day: slots.days[0],
+        quarter,
+        until: stamp(random, service),
+    }
+}
+
 /// A clear: mostly of no day of the slots or the oldest of them.
 fn clear(random: &mut Random, service: &Service, slots: &Slots) -> Event {
     let kept = service.state.kept_day;

@@ -10,7 +10,7 @@ use crate::random::Random;
 use crate::sheets;
 use crate::sides::Event;
 use crate::smaller;
-use crate::weeks;
+use crate::weeks::Substitutes;
 use second::refusal;
 use second::registration::Registration;
 use second::service::Service;
@@ -21,8 +21,8 @@ pub const ROUNDS: u64 = 180;
 /// How many calls they are to have at least, and how many of these on damaged records and journals.
 const CALLS_LEAST: (u64, u64) = (300_000, 30_000);
 
-/// How often at least the reading of each week alone is to make a substitute, and a damaged registration to be written
-/// to no byte and to one.
+/// How often at least each number of weeks is to be in a substitute, the reading of each week alone to make one, the
+/// oldest entry to be in one, and a damaged registration to be written to no byte and to one.
 const CASES_LEAST: u64 = 2_000;
 
 /// A record, a journal and the calls that are made on them.
@@ -33,15 +33,14 @@ struct Scenario {
     damaged: bool,
 }
 
-/// What was seen: how often each answer, how many calls, how many on damaged records and journals; how often the
-/// reading of week 1, 2, 3 or 4 alone made a substitute; how often a damaged registration was written to no byte, and
-/// to one.
+/// What was seen: how often each answer, how many calls, how many on damaged records and journals; the substitutes; how
+/// often a damaged registration was written to no byte, and to one.
 #[derive(Default)]
 struct Seen {
     answers: [u64; 17],
     calls: u64,
     damaged: u64,
-    alone: [u64; 4],
+    substitutes: Substitutes,
     short: [u64; 2],
 }
 
@@ -56,10 +55,7 @@ impl Seen {
             Call::On {
                 event: Event::Evaluation { day, quarter, until },
                 ..
-            } if answer == 0 => {
-                let alone = weeks::alone(kept, *day, *quarter, *until);
-                (0..4).for_each(|week| self.alone[week] += alone[week]);
-            }
+            } if answer == 0 => self.substitutes.count(kept, *day, *quarter, *until),
             _ => (),
         }
     }
@@ -75,10 +71,16 @@ impl Seen {
                 self.calls, self.damaged
             ));
         }
-        if self.alone.iter().chain(&self.short).any(|&seen| seen < CASES_LEAST) {
+        let Substitutes {
+            by_weeks,
+            alone,
+            with_oldest,
+        } = &self.substitutes;
+        let cases = by_weeks.iter().chain(alone).chain([with_oldest]).chain(&self.short);
+        if cases.copied().any(|seen| seen < CASES_LEAST) {
             return Err(format!(
-                "too few: {:?} substitutes by one week alone, {:?} writes of a damaged registration to no byte and to one",
-                self.alone, self.short
+                "too few: {:?}, {:?} writes of a damaged registration to no byte and to one",
+                self.substitutes, self.short
             ));
         }
         Ok(())
@@ -227,6 +229,37 @@ fn at_the_ends(random: &mut Random) -> Scenario {
     }
 }
 
+/// Readings of the four weeks before one quarter hour for up to three points, in any order and with corrections, and
+/// evaluations of that quarter hour as of any stamp.
+fn earlier_weeks(random: &mut Random) -> Scenario {
+    let mut kept = fresh(random);
+    kept.journal.resize(random.between(60, 120) as usize, 7);
+    let points = kept.service.registration.points().min(random.between(1, 3) as usize);
+    if !random.one_in(4) {
+        kept.service.registration.statuses[..points].fill(0);
+    }
+    let start = kept.clone();
+    let slots = events::slots(random);
+    let quarter = random.pick(&slots.quarters);
+    let mut made = Vec::new();
+    for _ in 0..random.between(10, 40) {
+        let point = random.place(points);
+        let event = if random.one_in(3) {
+            events::evaluation_of(random, &kept.service, &slots, quarter)
+        } else {
+            events::of_an_earlier_week(random, &kept.service, &slots, (point, quarter))
+        };
+        let result = result_list(random, &kept.service.registration);
+        kept.make(event, &mut result.clone());
+        made.push(Call::On { event, result });
+    }
+    Scenario {
+        start,
+        calls: made,
+        damaged: false,
+    }
+}
+
 /// A text of a registration, right, broken or spoilt.
 fn text(random: &mut Random, registration: &Registration) -> Vec<u8> {
     let mut text = match random.below(3) {
@@ -318,6 +351,7 @@ pub fn compare(seed: u64, rounds: u64) -> Result<String, String> {
                 &at_the_ends(random),
                 &mut seen,
             )?;
+            count(seed, "earlier weeks", &earlier_weeks(random), &mut seen)?;
             count(seed, "texts", &texts(random), &mut seen)?;
         }
         for rule in &breaks {
@@ -331,12 +365,18 @@ pub fn compare(seed: u64, rounds: u64) -> Result<String, String> {
         answers,
         calls,
         damaged,
-        alone,
+        substitutes,
         short,
     } = seen;
+    let Substitutes {
+        by_weeks,
+        alone,
+        with_oldest,
+    } = substitutes;
     Ok(format!(
         "{calls} calls from seed {seed} on, no difference; {damaged} of them on records and journals damaged in {} \
-         ways, {short:?} of these writes to no byte and to one; substitutes by the reading of week 1, 2, 3 or 4 alone: \
+         ways, {short:?} of these writes to no byte and to one; substitutes with 0, 1, 2, 3 or 4 weeks in the mean: \
+         {by_weeks:?}, {with_oldest} of them with the journal's oldest entry, by the reading of week 1, 2, 3 or 4 alone: \
          {alone:?}; answers 0 to 16: {answers:?}",
         breaks.len()
     ))

@@ -76,10 +76,8 @@ fn play_round(registration: &Registration, outcome: &mut Outcome) {
     outcome.supplies = left;
 }
 
-/// Gives the mean of some values to the nearest whole number, halves up, and 0 for no values.
-pub fn mean(values: &[u64]) -> u64 {
-    let count = values.len() as u128;
-    let sum: u128 = values.iter().map(|&value| u128::from(value)).sum();
+/// Gives the mean of values with a sum and a count to the nearest whole number, halves up, and 0 for no values.
+pub fn mean(sum: u128, count: u128) -> u64 {
     (2 * sum + count).checked_div(2 * count).unwrap_or(0) as u64
 }
 
@@ -172,13 +170,13 @@ mod tests {
 
     #[test]
     fn means_round_halves_up() {
-        assert_eq!(mean(&[]), 0);
-        assert_eq!(mean(&[7]), 7);
-        assert_eq!(mean(&[1, 2]), 2);
-        assert_eq!(mean(&[1, 1, 2]), 1);
-        assert_eq!(mean(&[1, 2, 2]), 2);
-        assert_eq!(mean(&[0, 0, 0, 1]), 0);
-        assert_eq!(mean(&[0, 0, 1, 1]), 1);
-        assert_eq!(mean(&[u64::MAX; 4]), u64::MAX);
+        assert_eq!(mean(0, 0), 0);
+        assert_eq!(mean(7, 1), 7);
+        assert_eq!(mean(3, 2), 2);
+        assert_eq!(mean(4, 3), 1);
+        assert_eq!(mean(5, 3), 2);
+        assert_eq!(mean(1, 4), 0);
+        assert_eq!(mean(2, 4), 1);
+        assert_eq!(mean(4 * u128::from(u64::MAX), 4), u64::MAX);
     }
 }

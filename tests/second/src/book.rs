@@ -1,7 +1,7 @@
 //! The book: every accepted reading with its stamp, nothing ever taken out.
 
 use crate::allocation::Outcome;
-use crate::evaluation;
+use crate::evaluation::{self, weeks_earlier, Total, WEEKS};
 use crate::registration::Registration;
 use std::collections::HashMap;
 
@@ -52,11 +52,25 @@ impl Book {
         noted[..count].last().map(|&(_, magnitude)| magnitude)
     }
 
+    /// Adds up the readings of the earlier weeks as of a stamp.
+    fn earlier(&self, code: u64, day: u64, quarter: u64, until: u64) -> Total {
+        let mut total = Total::default();
+        for (day, quarter) in (1..=WEEKS).filter_map(|weeks| weeks_earlier(weeks, day, quarter)) {
+            if let Some(magnitude) = self.reading(code, day, quarter, until) {
+                total.add(magnitude);
+            }
+        }
+        total
+    }
+
     /// Gives the result for a day and quarter as of a stamp.
     pub fn result(&self, day: u64, quarter: u64, until: u64) -> Outcome {
-        evaluation::evaluate(&self.registration, day, |point, on| {
-            self.reading(self.registration.codes[point], on, quarter, until)
-        })
+        let codes = &self.registration.codes;
+        evaluation::evaluate(
+            &self.registration,
+            |point| self.reading(codes[point], day, quarter, until),
+            |point| self.earlier(codes[point], day, quarter, until),
+        )
     }
 }
 

@@ -2,7 +2,7 @@
 
 use crate::allocation::Outcome;
 use crate::calendar::{self, DAYS};
-use crate::evaluation::{self, EARLIER};
+use crate::evaluation::{self, weeks_earlier, Total, WEEKS};
 use crate::refusal::*;
 use crate::registration::{Registration, POINTS};
 use std::collections::HashMap;
@@ -12,6 +12,9 @@ pub const ENTRY: usize = 3;
 
 /// How many quarters a place leaves room for on each day.
 const QUARTERS: u64 = 100;
+
+/// How many places each point has.
+const POINT_PLACES: u64 = DAYS * QUARTERS;
 
 /// The quarters that every day has.
 const SURE_QUARTERS: u64 = 92;
@@ -23,7 +26,7 @@ pub const GREATEST_STAMP: u64 = 999_999_999_999;
 pub const GREATEST_MAGNITUDE: u64 = 99_999_999;
 
 /// How many days before the evaluated one its evaluation looks back.
-const LOOK_BACK: u64 = 28;
+const LOOK_BACK: u64 = 7 * WEEKS;
 
 /// What changes in a service from call to call.
 #[derive(Clone, Copy, PartialEq, Eq, Debug)]
@@ -124,7 +127,7 @@ impl Service {
 
     /// Tells whether stamps fail to rise up to the last one, or an entry has a wrong place or magnitude.
     fn entries_damaged(&self, entries: &[u64]) -> bool {
-        let places = self.registration.points() as u64 * DAYS * QUARTERS;
+        let places = self.registration.points() as u64 * POINT_PLACES;
         let mut before = 0;
         for entry in entries.chunks_exact(ENTRY) {
             let (stamp, place, magnitude) = (entry[0], entry[1], entry[2]);
@@ -240,31 +243,55 @@ impl Service {
     /// Gives the outcome for a quarter as of a stamp from the entries of an undamaged journal.
     fn outcome(&self, entries: &[u64], day: u64, quarter: u64, until: u64) -> Outcome {
         let shown = &entries[..ENTRY * entries_until(entries, until)];
-        let table = gather(shown, day, quarter);
-        evaluation::evaluate(&self.registration, day, |point, on| {
-            table[point][((day - on) / 7) as usize]
-        })
+        let own = own_readings(shown, day, quarter);
+        evaluation::evaluate(
+            &self.registration,
+            |point| own[point],
+            |point| earlier_readings(shown, point, day, quarter),
+        )
     }
 }
 
-/// The newest readings of each point, on the evaluated day and on the days one to four weeks earlier.
-type Table = [[Option<u64>; 1 + EARLIER.len()]; POINTS];
-
-/// Gathers the newest readings for a quarter from entries whose stamps rise.
-fn gather(entries: &[u64], day: u64, quarter: u64) -> Table {
-    let mut table: Table = [[None; 1 + EARLIER.len()]; POINTS];
+/// Gives the newest reading of each point for a quarter from entries whose stamps rise.
+fn own_readings(entries: &[u64], day: u64, quarter: u64) -> [Option<u64>; POINTS] {
+    let place_of_first = place_of(0, day, quarter);
+    let mut readings = [None; POINTS];
     for entry in entries.chunks_exact(ENTRY) {
         let (place, magnitude) = (entry[1], entry[2]);
-        if place % QUARTERS != quarter - 1 {
-            continue;
-        }
-        let of_day = day_of_place(place);
-        if of_day <= day && day - of_day <= LOOK_BACK && (day - of_day).is_multiple_of(7) {
-            let point = (place / QUARTERS / DAYS) as usize;
-            table[point][((day - of_day) / 7) as usize] = Some(magnitude);
+        if place % POINT_PLACES == place_of_first {
+            readings[(place / POINT_PLACES) as usize] = Some(magnitude);
         }
     }
-    table
+    readings
+}
+
+/// Tells how many weeks before a point's quarter a place lies, if its substitute rests on it.
+fn weeks_before(place: u64, point: usize, day: u64, quarter: u64) -> Option<u64> {
+    let first_place = place_of(point, day.saturating_sub(LOOK_BACK), 1);
+    if place.wrapping_sub(first_place) >= LOOK_BACK * QUARTERS {
+        return None;
+    }
+    (1..=WEEKS).find(|&weeks| {
+        weeks_earlier(weeks, day, quarter).is_some_and(|(day, quarter)| place == place_of(point, day, quarter))
+    })
+}
+
+/// Adds up the newest readings of a point in the earlier weeks, going back once from the last of the entries.
+fn earlier_readings(entries: &[u64], point: usize, day: u64, quarter: u64) -> Total {
+    let mut total = Total::default();
+    let mut met = 0u32;
+    for entry in entries.rchunks_exact(ENTRY) {
+        let (place, magnitude) = (entry[1], entry[2]);
+        let found = weeks_before(place, point, day, quarter);
+        if let Some(weeks) = found.filter(|weeks| met & (1 << weeks) == 0) {
+            met |= 1 << weeks;
+            total.add(magnitude);
+            if total.count == u128::from(WEEKS) {
+                break;
+            }
+        }
+    }
+    total
 }
 
 /// Moves the entries that a clear keeps to the front, empties the rest and gives how many are kept.
@@ -289,6 +316,7 @@ fn compact(entries: &mut [u64], day: u64, stamp: u64) -> usize {
 #[cfg(test)]
 mod tests {
     use super::*;
+    use crate::allocation::allocate;
     use crate::book::Book;
     use crate::samples::{code, group, large_group, Dice, CONSUMER, FOREIGN, PRODUCER};
 
@@ -387,6 +415,173 @@ mod tests {
         service.registration.statuses[0] = 3;
         assert_eq!(supply(&service, &journal, 28, 96, 4), Ok(0));
         assert_eq!(supply(&service, &journal, 35, 96, 6), Ok(500));
+    }
+
+    /// A reading of the sample group: code, day, quarter and value.
+    type Reading = (u64, u64, u64, i64);
+
+    /// Gives the magnitudes of the three points from the outcome that shares them out.
+    fn magnitudes(outcome: &[u64]) -> [u64; 3] {
+        let [first_share, second_share, first_left, second_left, supply_left] = outcome.try_into().unwrap();
+        [
+            first_share + second_share + supply_left,
+            first_share + first_left,
+            second_share + second_left,
+        ]
+    }
+
+    /// Checks the magnitudes that service and book use for a quarter as of a stamp; the readings have stamps from 1 on.
+    fn check_magnitudes(readings: &[Reading], day: u64, quarter: u64, until: u64, expected: [u64; 3]) {
+        let (mut service, mut journal) = fresh(readings.len());
+        let mut book = Book::new(&group());
+        for (&(code, day, quarter, value), stamp) in readings.iter().zip(1..) {
+            assert_eq!(service.submit(&mut journal, 0, code, day, quarter, value), Ok(stamp));
+            assert_eq!(book.submit(0, code, day, quarter, value), stamp);
+        }
+        let mut result = [0; 5];
+        service.evaluate(&journal, day, quarter, until, &mut result).unwrap();
+        assert_eq!(magnitudes(&result), expected);
+        assert_eq!(magnitudes(&book.result(day, quarter, until).numbers()), expected);
+    }
+
+    #[test]
+    fn the_oldest_entry_counts_in_a_mean() {
+        let readings = [
+            (PRODUCER, 0, 1, 8),
+            (CONSUMER, 3, 9, -5),
+            (PRODUCER, 21, 1, 40),
+            (PRODUCER, 3, 9, 7),
+        ];
+        for (until, mean) in [(1, 8), (2, 8), (3, 24), (4, 24)] {
+            check_magnitudes(&readings, 28, 1, until, [mean, 0, 0]);
+        }
+        for day in [7, 14, 21, 28] {
+            check_magnitudes(&readings[..2], day, 1, 2, [8, 0, 0]);
+        }
+        check_magnitudes(&readings, 10, 9, 4, [7, 5, 0]);
+        check_magnitudes(&readings[1..], 31, 9, 1, [0, 5, 0]);
+    }
+
+    #[test]
+    fn earlier_weeks_are_shown_as_of_the_stamp() {
+        let readings = [
+            (PRODUCER, 7, 1, 10),
+            (PRODUCER, 7, 1, 30),
+            (PRODUCER, 14, 1, 50),
+            (PRODUCER, 7, 1, 90),
+            (PRODUCER, 14, 1, 0),
+        ];
+        for (until, mean) in [(0, 0), (1, 10), (2, 30), (3, 40), (4, 70), (5, 45)] {
+            check_magnitudes(&readings, 28, 1, until, [mean, 0, 0]);
+        }
+    }
+
+    #[test]
+    fn a_mean_is_over_the_weeks_that_have_a_reading() {
+        let weeks = [(79, 1), (86, 10), (93, 100), (100, 1002)];
+        for chosen in 0..16 {
+            let has_reading = |place: usize| chosen >> place & 1 == 1;
+            let mut readings: Vec<Reading> = (0..4)
+                .filter(|&place| has_reading(place))
+                .map(|place| (PRODUCER, weeks[place].0, 7, weeks[place].1))
+                .collect();
+            let sum: i64 = readings.iter().map(|reading| reading.3).sum();
+            let count = readings.len() as i64;
+            let mean = if count == 0 { 0 } else { (2 * sum + count) / (2 * count) };
+            for _ in 0..2 {
+                check_magnitudes(&readings, 107, 7, count as u64, [mean as u64, 0, 0]);
+                readings.reverse();
+            }
+        }
+    }
+
+    #[test]
+    fn a_mean_goes_back_to_the_fourth_week_met() {
+        let mut readings = vec![(PRODUCER, 100, 7, 1000)];
+        readings.extend((0..20).map(|value| (PRODUCER, 93, 7, value)));
+        readings.extend([(PRODUCER, 86, 7, 3), (PRODUCER, 79, 7, 2)]);
+        check_magnitudes(&readings, 107, 7, 23, [256, 0, 0]);
+        readings.insert(0, (PRODUCER, 100, 7, 500));
+        check_magnitudes(&readings, 107, 7, 24, [256, 0, 0]);
+        readings.rotate_left(2);
+        check_magnitudes(&readings, 107, 7, 24, [256, 0, 0]);
+    }
+
+    #[test]
+    fn a_mean_passes_over_other_points_quarters_and_days() {
+        let second_consumer = group().codes[2];
+        let readings = [
+            (PRODUCER, 93, 7, 40),
+            (CONSUMER, 93, 7, -500),
+            (PRODUCER, 93, 6, 501),
+            (PRODUCER, 93, 8, 502),
+            (PRODUCER, 92, 7, 503),
+            (PRODUCER, 94, 7, 504),
+            (PRODUCER, 72, 7, 505),
+            (PRODUCER, 106, 7, 506),
+            (PRODUCER, 114, 7, 507),
+            (PRODUCER, 107, 6, 508),
+            (second_consumer, 86, 7, -60),
+            (second_consumer, 100, 7, -61),
+        ];
+        check_magnitudes(&readings, 107, 7, 12, [40, 500, 61]);
+        check_magnitudes(&readings, 107, 7, 11, [40, 500, 60]);
+        check_magnitudes(&readings, 107, 7, 1, [40, 0, 0]);
+        check_magnitudes(&readings[1..], 107, 7, 11, [0, 500, 61]);
+    }
+
+    /// Gives the magnitude of the entry for a place with the greatest stamp up to the given one.
+    fn looked_up(entries: &[u64], place: u64, until: u64) -> Option<u64> {
+        let shown = entries.chunks_exact(ENTRY).filter(|entry| entry[0] <= until);
+        let of_place = shown.filter(|entry| entry[1] == place);
+        of_place.max_by_key(|entry| entry[0]).map(|entry| entry[2])
+    }
+
+    /// Gives the magnitude that counts for a point, by looking it up and, failing that, each week in turn.
+    fn expected_magnitude(entries: &[u64], status: u8, own_place: u64, until: u64) -> u64 {
+        if let Some(own) = looked_up(entries, own_place, until) {
+            return own;
+        }
+        let day = own_place / 100 % 27759;
+        let found: Vec<u64> = [7, 14, 21, 28]
+            .iter()
+            .filter(|&&before| before <= day)
+            .filter_map(|before| looked_up(entries, own_place - 100 * before, until))
+            .collect();
+        if status > 0 || found.is_empty() {
+            return 0;
+        }
+        let (sum, count) = (found.iter().sum::<u64>(), found.len() as u64);
+        sum / count + u64::from(sum % count * 2 >= count)
+    }
+
+    #[test]
+    fn evaluations_equal_a_look_up_for_each_point_and_week() {
+        let mut dice = Dice(2463534242);
+        for (producers, consumers) in [(1, 1), (1, 2), (3, 9), (5, 59), (63, 1)] {
+            let registration = large_group(producers, consumers, 1);
+            let points = registration.points() as u64;
+            let (mut service, mut journal) = (Service::fresh(&registration).unwrap(), vec![0; ENTRY * 2000]);
+            for _ in 0..2000 {
+                let (point, day) = (dice.below(points), dice.below(6) * 7 + dice.below(20) / 19);
+                let value = dice.below(1000) as i64 * if point < producers as u64 { 1 } else { -1 };
+                let _ = service.submit(&mut journal, 0, code(point), day, 1 + dice.below(3), value);
+            }
+            let entries = service.entries(&journal);
+            for _ in 0..300 {
+                let (day, quarter) = (dice.below(10) * 7, 1 + dice.below(3));
+                let until = dice.below(service.state.last + 1);
+                let magnitudes: Vec<u64> = (0..points)
+                    .map(|point| (point * 27759 + day) * 100 + quarter - 1)
+                    .zip(registration.statuses)
+                    .map(|(place, status)| expected_magnitude(entries, status, place, until))
+                    .collect();
+                let expected = allocate(&registration, &magnitudes).numbers();
+                let mut result = vec![0; expected.len()];
+                service.evaluate(&journal, day, quarter, until, &mut result).unwrap();
+                assert_eq!(result, expected);
+            }
+        }
     }
 
     #[test]

@@ -1,29 +1,25 @@
--- `evaluation::evaluate` meets its contract: what is gathered, substituted, allocated and put is the result of the readings. Assumes nothing.
+-- `evaluation::evaluate` meets its contract: what is looked up, allocated and put is the result of the readings. Assumes nothing.
 use borrow.Author.Needs.{needs}
 use Rattle.allocation.proofs.Shareable.{few-points}
 use Rattle.evaluation.proofs.Evaluated.{all-within, evaluated}
 use Rattle.evaluation.proofs.evaluate.Statement.{statement}
 use Rattle.evaluation.proofs.evaluate.Tie as tie
 
-gather-requires : tie.Need-gather-requires
-gather-requires c κs = search needs
-
-add-magnitudes : tie.Need-add-magnitudes
-add-magnitudes c = search needs
+add-points : tie.Need-add-points
+add-points c = search needs
 
 magnitudes-requires : tie.Need-magnitudes-requires
-magnitudes-requires c κs = (c .before .before .before .gather .ensures .within, few-points (c .before .before .before .before .before .before .pre .0))
+magnitudes-requires c κs =
+    let start = c .before .before .before .before in
+    (record { exists = start .pre .1; holds = start .pre .2; right = start .pre .3 }, few-points (start .pre .0))
 
 allocate-requires : tie.Need-allocate-requires
 allocate-requires c κs =
-    let gathered = c .before .before .before .before in
-    let shareable = gathered .before .before .before .pre .0 in
-    (shareable, all-within shareable (gathered .gather .ensures) (c .magnitudes .ensures))
+    let start = c .before .before .before .before .before in
+    (start .pre .0, all-within (start .args .registration) (c .magnitudes .ensures) (start .pre .3))
 
 put-allocation-requires : tie.Need-put-allocation-requires
-put-allocation-requires c κs =
-    let start = c .before .before .before .before .before .before .before .before .before in
-    (start .pre .0, start .pre .4)
+put-allocation-requires c κs = search needs
 
 same-length : tie.Need-same-length
 same-length c = search needs
@@ -32,18 +28,15 @@ returns : tie.Need-returns
 returns c =
     let put = c .before .before in
     let allocated = put .before .before in
-    let magnitudes = allocated .before in
-    let gathered = magnitudes .before .before .before .before in
-    let start = gathered .before .before .before in
-    evaluated (start .pre .0) (gathered .gather .ensures) (magnitudes .magnitudes .ensures) (allocated .allocate .result) (allocated .allocate .ensures)
-    (put .put-allocation .ensures)
+    let looked-up = allocated .before in
+    let start = looked-up .before .before .before .before .before in
+    evaluated (start .args .registration) (looked-up .magnitudes .ensures) (allocated .allocate .result) (allocated .allocate .ensures) (put .put-allocation .ensures)
 
 pub evaluate-spec : {M : Type 1} → statement M
 evaluate-spec =
     tie.close
     (tie.spec
-    gather-requires
-    add-magnitudes
+    add-points
     magnitudes-requires
     allocate-requires
     put-allocation-requires

@@ -1,4 +1,4 @@
--- `evaluation::mean` meets its contract: the quotient, or one more where half the count or more is left over. Assumes nothing.
+-- `evaluation::lookup::mean` meets its contract: the quotient, or one more where half the count or more is left over. Assumes nothing.
 use borrow.Author.Needs.{needs}
 use native.Mathlib.Omega.{arith}
 use native.Mathlib.Nat.{mod-lt}
@@ -6,8 +6,8 @@ use mathlib.Core.Path.{sym}
 use borrow.Author.Tests.{eq-eqb}
 use Rattle.evaluation.specs.Mean.{nearest}
 use Rattle.evaluation.proofs.Nearest.{nearest-down, nearest-up, one-more-fits}
-use Rattle.evaluation.proofs.mean.Statement.{statement}
-use Rattle.evaluation.proofs.mean.Tie as tie
+use Rattle.evaluation.proofs.lookup.mean.Statement.{statement}
+use Rattle.evaluation.proofs.lookup.mean.Tie as tie
 
 returns : tie.Need-returns
 unfolding nearest
