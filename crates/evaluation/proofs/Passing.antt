@@ -41,6 +41,7 @@ module _ (count : ℕ) (j : List ℕ) (asked : Asked) (point : ℕ) where
   abbrev rest : (i : ℕ) → Weeks → List ℕ
   rest i weeks = existing (values (asked .until) (entries i j) (soughtIn weeks))
 
+  -- what has been met and what is left give the whole; each place is sought once at most, and is near
   pub record Passing (i : ℕ) (weeks : Weeks) : Type 0 where
     pub within : i ≤ count
     pub small : weeks .sum ≤ magnitudeMost * weeks .count
