@@ -97,8 +97,8 @@ fn submit_repeat(registration: &Registration, entries: usize) -> Cell {
     )
 }
 
-/// The evaluation, as of the last stamp, of the last quarter hour that all points have passed, in which the first so many of them have no reading: theirs
-/// are left out of the journal.
+/// The evaluation, as of the last stamp, of a quarter hour near the journal's end in which the first so many points have
+/// no reading and all others have one.
 fn evaluate_without(name: &'static str, registration: &Registration, entries: usize, missing: usize) -> Cell {
     let mut readings = data::readings(registration, entries + missing);
     let Reading { day, quarter, .. } = readings[entries + missing - registration.points()];
