@@ -1,7 +1,8 @@
 #!/usr/bin/env bash
 # The static library for C and Rust: it is proved and built, its header is compiled as C and as C++, and the example programs of both languages are built
-# and run. Each has to write what program `share` writes for case LIST, or what program `changeovers` writes. Header and Rust package give a result the room
-# that crates/evaluation has proved enough, and the table of changeover days as many entries as crates/calendar has.
+# and run. Each has to write what program `share` writes for case LIST, what program `changeovers` writes, or the origins that were worked out by hand. Header
+# and Rust package give a result the room that crates/evaluation has proved enough, and the table of changeover days as many entries as crates/calendar has;
+# they have the same origins. The tests of the Rust package itself are run too.
 set -u
 cd "$(dirname "$0")/.." || exit 1
 bash tests/built.sh || exit 1
@@ -45,6 +46,18 @@ same resultMost crates/evaluation/specs/Layout.antt RESULT_MOST crates/evaluatio
 same changeoverCount crates/calendar/specs/Changeovers.antt CHANGEOVER_COUNT $home/share.h CHANGEOVER_COUNT $home/rust/src/lib.rs
 same TEXT_MOST $home/share.h TEXT_MOST $home/rust/src/lib.rs
 
+# The origins of a file, each with its number, by the lines that a substitution gives; ZeroByStatus is written ZERO_BY_STATUS.
+origins() {
+    sed -nE "$1" "$2" | sed -E 's/([a-z])([A-Z])/\1_\2/g; s/.*/\U&/'
+}
+
+in_header=$(origins '/^ *SHARE_MEASURED /,/^}/s/^ *SHARE_([A-Z_]+) = ([0-9]+).*/\2 \1/p' $home/share.h)
+in_package=$(origins '/^pub enum Origin /,/^}/s/^ *([A-Za-z]+) = ([0-9]+),$/\2 \1/p' $home/rust/src/origin.rs)
+if [ "$(cut -d ' ' -f 1 <<<"$in_header")" != "$(seq 0 6)" ] || [ "$in_package" != "$in_header" ]; then
+    echo "library.sh: header and Rust package have not the same seven origins"
+    failed=1
+fi
+
 # The examples of one name, in C and in Rust, and the file with what they have to write.
 both() {
     # shellcheck disable=SC2086
@@ -57,5 +70,7 @@ both() {
 c++ $strict -fsyntax-only -x c++ $home/share.h || failed=1
 both list tests/share/list.out
 both changeovers crates/changeovers/stdout
+both origins $home/examples/origins.out
+cargo test --quiet --offline --release --manifest-path $home/rust/Cargo.toml --target-dir target/cargo --lib || failed=1
 
-[ "$failed" -eq 0 ] && echo "library.sh: case LIST and the changeover days through the library, in C and in Rust"
+[ "$failed" -eq 0 ] && echo "library.sh: case LIST, the changeover days and the origins through the library, in C and in Rust"

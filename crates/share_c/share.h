@@ -51,11 +51,32 @@ enum {
 };
 
 /*
+ * Origins. The last numbers of a result say of each point where its value in the quarter hour came from, by one of these. Readings up to
+ * the evaluation's stamp count, and one of 0 is a reading; the earlier weeks are the four before the day, 7, 14, 21 and 28 days back.
+ */
+enum {
+    /* The value was measured: the quarter hour has a reading, whatever the point's status. */
+    SHARE_MEASURED = 0,
+    /* The quarter hour has no reading; the value is the mean of one earlier week. */
+    SHARE_MEAN_OF_ONE_WEEK = 1,
+    /* The quarter hour has no reading; the value is the mean of two earlier weeks. */
+    SHARE_MEAN_OF_TWO_WEEKS = 2,
+    /* The quarter hour has no reading; the value is the mean of three earlier weeks. */
+    SHARE_MEAN_OF_THREE_WEEKS = 3,
+    /* The quarter hour has no reading; the value is the mean of four earlier weeks. */
+    SHARE_MEAN_OF_FOUR_WEEKS = 4,
+    /* The quarter hour has no reading, and the point's status is above 0; the value is zero, whatever the earlier weeks have. */
+    SHARE_ZERO_BY_STATUS = 5,
+    /* The quarter hour has no reading, the point's status is 0, and no earlier week has a reading; the value is zero. */
+    SHARE_ZERO_FOR_LACK = 6
+};
+
+/*
  * SHARE_TEXT_MOST bytes hold the text of every registration. SHARE_RESULT_MOST numbers hold every result; that no undamaged registration needs more is
  * proved in crates/evaluation.
  */
 #define SHARE_TEXT_MOST 4552
-#define SHARE_RESULT_MOST 359
+#define SHARE_RESULT_MOST 423
 
 /* How many entries the table of changeover days has: two for each year from 2024 to 2099. */
 #define SHARE_CHANGEOVER_COUNT 152
@@ -168,9 +189,11 @@ struct share_clear_answer share_clear(struct share_service *service, uint64_t *j
 
 /*
  * Evaluates a quarter hour as of stamp `until`, from the kept stamp to the last one. The result list gets each pair's share (consumers in
- * order, priorities within), then what remains of each withdrawal, then of each supply; later numbers stay. Gives the round count. Two
- * accepted evaluations of one quarter hour as of one stamp give the same, whatever was submitted or cleared between them. Refused by
- * 15, 9, 11, 12, 16, in this order.
+ * order, priorities within), then what remains of each withdrawal, then of each supply, then the origin of each point's value, producers
+ * first; later numbers stay. So it needs a number for each pair and two for each point: with as many pairs as `counts` sum to, the
+ * withdrawals begin at place `pairs`, the supplies at `pairs + consumers`, the origins at `pairs + consumers + producers`. Gives the round
+ * count. Two accepted evaluations of one quarter hour as of one stamp give the same, origins included, whatever was submitted or cleared
+ * between them. Refused by 15, 9, 11, 12, 16, in this order.
  */
 struct share_evaluate_answer share_evaluate(struct share_service service, const uint64_t *journal, size_t journal_length, uint64_t day,
                                             uint64_t quarter, uint64_t until, uint64_t *result, size_t result_length);

@@ -22,15 +22,15 @@ use Rattle.registration.specs.Rules.{pairsRight}
 use Rattle.registration.specs.Damage.{isDamaged, empty}
 use Rattle.allocation.specs.Rounds.{roundsOf, leftAt, roundOf, afterRounds}
 use Rattle.allocation.specs.Result.{allocationOf}
-use Rattle.evaluation.specs.Mean.{sumOf, nearest}
+use Rattle.lookup.specs.Mean.{sumOf, nearest}
 use Rattle.journal.specs.Order.{weaker}
 use Rattle.journal.specs.Readings.{shown}
 use Rattle.journal.specs.Entries.{keep}
 use Rattle.journal.specs.Stored.{entries, flat, written}
 use Rattle.journal.specs.Damage.{entryRight, entriesRight}
-use Rattle.evaluation.specs.Earlier.{earlier}
-use Rattle.evaluation.specs.Substitutes.{existing, magnitudeOf}
-use Rattle.evaluation.specs.Evaluation.{evaluationOf}
+use Rattle.lookup.specs.Earlier.{earlier}
+use Rattle.lookup.specs.Substitutes.{existing, lookedUp}
+use Rattle.evaluation.specs.Evaluation.{resultFrom, evaluationOf}
 use Rattle.service.specs.declared.State.{State}
 use Rattle.service.specs.declared.Service.{Service}
 use Rattle.points.specs.Points.{indexOf}
@@ -94,7 +94,7 @@ plus n = pos n
 abbrev minus : ℕ → ℤ
 minus n = negℤ (pos n)
 
--- the calls: an evaluation is lent six numbers, of which a result in the group of case LIST takes five
+-- the calls: an evaluation is lent nine numbers, of which a result in the group of case LIST takes eight
 abbrev submit : (clock code day quarter : ℕ) → ℤ → Call
 submit clock code day quarter value = Submission clock (record { code = code; day = day; quarter = quarter; value = value })
 
@@ -102,7 +102,7 @@ abbrev clear : (day stamp : ℕ) → Call
 clear = Clear
 
 abbrev evaluate : (day quarter T : ℕ) → Call
-evaluate day quarter T = Evaluation day quarter T (replicate 6 7)
+evaluate day quarter T = Evaluation day quarter T (replicate 9 7)
 
 -- a call, and what is to be seen of it: its answer, the number that it returns, and the list lent for a result
 record Line : Type 0 where
@@ -151,8 +151,8 @@ damagedRow shows start = row shows start (evaluate 38 1 5 refused 15 ∷ []) (st
 unfoldable listLines : List Line
 listLines =
     submit 1000 producer 1 1 (plus 1001) returns 1000 ∷ submit 1000 first 1 1 (minus 100) returns 1001 ∷ submit 990 second 1 1 (minus 900) returns 1002
-    ∷ evaluate 1 1 1002 gives 2 rounds (100 ∷ 780 ∷ 0 ∷ 120 ∷ 121 ∷ 7 ∷ []) ∷ evaluate 1 1 1001 gives 2 rounds (100 ∷ 0 ∷ 0 ∷ 0 ∷ 901 ∷ 7 ∷ [])
-    ∷ evaluate 1 1 1000 gives 2 rounds (0 ∷ 0 ∷ 0 ∷ 0 ∷ 1001 ∷ 7 ∷ []) ∷ evaluate 1 1 1003 refused 12 ∷ []
+    ∷ evaluate 1 1 1002 gives 2 rounds (100 ∷ 780 ∷ 0 ∷ 120 ∷ 121 ∷ 0 ∷ 0 ∷ 0 ∷ 7 ∷ []) ∷ evaluate 1 1 1001 gives 2 rounds (100 ∷ 0 ∷ 0 ∷ 0 ∷ 901 ∷ 0 ∷ 0 ∷ 6 ∷ 7 ∷ [])
+    ∷ evaluate 1 1 1000 gives 2 rounds (0 ∷ 0 ∷ 0 ∷ 0 ∷ 1001 ∷ 0 ∷ 6 ∷ 6 ∷ 7 ∷ []) ∷ evaluate 1 1 1003 refused 12 ∷ []
 
 -- the journal that they leave
 abbrev listJournal : List ℕ
@@ -163,7 +163,7 @@ unfoldable listed : List Row
 listed =
     row "LIST" (fresh (group 314 1 0 6000) (replicate 9 0)) listLines (1002 ∷ 0 ∷ 0 ∷ 3 ∷ []) listJournal ∷
     row "LIST without iteration" (held (group 0 0 0 6000) 1002 0 0 3 listJournal)
-    (evaluate 1 1 1002 gives 1 rounds (100 ∷ 600 ∷ 0 ∷ 300 ∷ 301 ∷ 7 ∷ []) ∷ [])
+    (evaluate 1 1 1002 gives 1 rounds (100 ∷ 600 ∷ 0 ∷ 300 ∷ 301 ∷ 0 ∷ 0 ∷ 0 ∷ 7 ∷ []) ∷ [])
     (1002 ∷ 0 ∷ 0 ∷ 3 ∷ []) listJournal ∷ []
 
 -- submissions: refusals and their order, the edges, room in the journal, and stamps
@@ -210,14 +210,14 @@ clears =
     row "corrections before and after a clear at a stamp between" (fresh list (replicate 15 7))
     (submit 10 producer 50 1 (plus 1000) returns 10 ∷ submit 20 first 50 1 (minus 100) returns 20 ∷ submit 30 first 50 1 (minus 300) returns 30
     ∷ submit 40 first 50 1 (minus 200) returns 40
-    ∷ evaluate 50 1 29 gives 2 rounds (100 ∷ 0 ∷ 0 ∷ 0 ∷ 900 ∷ 7 ∷ []) ∷ evaluate 50 1 35 gives 2 rounds (300 ∷ 0 ∷ 0 ∷ 0 ∷ 700 ∷ 7 ∷ [])
-    ∷ evaluate 50 1 40 gives 2 rounds (200 ∷ 0 ∷ 0 ∷ 0 ∷ 800 ∷ 7 ∷ [])
+    ∷ evaluate 50 1 29 gives 2 rounds (100 ∷ 0 ∷ 0 ∷ 0 ∷ 900 ∷ 0 ∷ 0 ∷ 6 ∷ 7 ∷ []) ∷ evaluate 50 1 35 gives 2 rounds (300 ∷ 0 ∷ 0 ∷ 0 ∷ 700 ∷ 0 ∷ 0 ∷ 6 ∷ 7 ∷ [])
+    ∷ evaluate 50 1 40 gives 2 rounds (200 ∷ 0 ∷ 0 ∷ 0 ∷ 800 ∷ 0 ∷ 0 ∷ 6 ∷ 7 ∷ [])
     ∷ clear 0 35 returns 1
     ∷ evaluate 50 1 29 refused 12 ∷ evaluate 50 1 34 refused 12
-    ∷ evaluate 50 1 35 gives 2 rounds (300 ∷ 0 ∷ 0 ∷ 0 ∷ 700 ∷ 7 ∷ []) ∷ evaluate 50 1 40 gives 2 rounds (200 ∷ 0 ∷ 0 ∷ 0 ∷ 800 ∷ 7 ∷ []) ∷ [])
+    ∷ evaluate 50 1 35 gives 2 rounds (300 ∷ 0 ∷ 0 ∷ 0 ∷ 700 ∷ 0 ∷ 0 ∷ 6 ∷ 7 ∷ []) ∷ evaluate 50 1 40 gives 2 rounds (200 ∷ 0 ∷ 0 ∷ 0 ∷ 800 ∷ 0 ∷ 0 ∷ 6 ∷ 7 ∷ []) ∷ [])
     (40 ∷ 35 ∷ 0 ∷ 3 ∷ []) corrected ∷
     row "an emptied slot is used again" (held list 40 35 0 3 corrected)
-    (submit 1 second 50 1 (minus 5) returns 41 ∷ evaluate 50 1 41 gives 2 rounds (200 ∷ 5 ∷ 0 ∷ 0 ∷ 795 ∷ 7 ∷ []) ∷ [])
+    (submit 1 second 50 1 (minus 5) returns 41 ∷ evaluate 50 1 41 gives 2 rounds (200 ∷ 5 ∷ 0 ∷ 0 ∷ 795 ∷ 0 ∷ 0 ∷ 0 ∷ 7 ∷ []) ∷ [])
     (41 ∷ 35 ∷ 0 ∷ 4 ∷ []) (10 ∷ 5000 ∷ 1000 ∷ 30 ∷ 2780900 ∷ 300 ∷ 40 ∷ 2780900 ∷ 200 ∷ 41 ∷ 5556800 ∷ 5 ∷ 7 ∷ 7 ∷ 7 ∷ []) ∷
     row "a stamp below P, and then the same P and K again" (held list 40 35 10 3 corrected) (clear 10 34 refused 12 ∷ clear 10 35 returns 0 ∷ [])
     (40 ∷ 35 ∷ 10 ∷ 3 ∷ []) corrected ∷
@@ -228,7 +228,7 @@ clears =
     ∷ submit 4 first 99 1 (plus 1) refused 11
     ∷ evaluate 127 1 3 refused 11 ∷ evaluate 127 97 3 refused 9 ∷ evaluate 127 1 1 refused 11
     ∷ evaluate 27759 1 3 refused 9 ∷ Evaluation 128 1 1 [] refused 12
-    ∷ evaluate 128 1 3 gives 2 rounds (2 ∷ 0 ∷ 0 ∷ 0 ∷ 998 ∷ 7 ∷ []) ∷ evaluate 128 1 2 gives 2 rounds (0 ∷ 0 ∷ 2 ∷ 0 ∷ 0 ∷ 7 ∷ [])
+    ∷ evaluate 128 1 3 gives 2 rounds (2 ∷ 0 ∷ 0 ∷ 0 ∷ 998 ∷ 1 ∷ 1 ∷ 6 ∷ 7 ∷ []) ∷ evaluate 128 1 2 gives 2 rounds (0 ∷ 0 ∷ 2 ∷ 0 ∷ 0 ∷ 6 ∷ 1 ∷ 6 ∷ 7 ∷ [])
     ∷ clear 99 3 refused 11 ∷ clear 99 1 refused 11 ∷ clear 27759 1 refused 9 ∷ clear 100 1 refused 12 ∷ clear 100 4 refused 12
     ∷ submit 4 first 100 2 (minus 1) returns 4 ∷ [])
     (4 ∷ 2 ∷ 100 ∷ 3 ∷ []) (2 ∷ 2785900 ∷ 2 ∷ 3 ∷ 10000 ∷ 1000 ∷ 4 ∷ 2785901 ∷ 1 ∷ 0 ∷ 0 ∷ 0 ∷ []) ∷
@@ -242,8 +242,8 @@ abbrev statusRow : String → (status : ℕ) → Row
 statusRow shows status =
     row shows (fresh (group 0 1 status 6000) (replicate 12 0))
     (submit 1 producer 28 1 (plus 1000) returns 1 ∷ submit 2 first 21 1 (minus 1) returns 2 ∷ submit 3 first 14 1 (minus 2) returns 3
-    ∷ evaluate 28 1 3 gives 2 rounds (0 ∷ 0 ∷ 0 ∷ 0 ∷ 1000 ∷ 7 ∷ []) ∷ submit 4 first 28 1 (minus 5) returns 4
-    ∷ evaluate 28 1 4 gives 2 rounds (5 ∷ 0 ∷ 0 ∷ 0 ∷ 995 ∷ 7 ∷ []) ∷ [])
+    ∷ evaluate 28 1 3 gives 2 rounds (0 ∷ 0 ∷ 0 ∷ 0 ∷ 1000 ∷ 0 ∷ 5 ∷ 6 ∷ 7 ∷ []) ∷ submit 4 first 28 1 (minus 5) returns 4
+    ∷ evaluate 28 1 4 gives 2 rounds (5 ∷ 0 ∷ 0 ∷ 0 ∷ 995 ∷ 0 ∷ 0 ∷ 6 ∷ 7 ∷ []) ∷ [])
     (4 ∷ 0 ∷ 0 ∷ 4 ∷ []) (1 ∷ 2800 ∷ 1000 ∷ 2 ∷ 2778000 ∷ 1 ∷ 3 ∷ 2777300 ∷ 2 ∷ 4 ∷ 2778700 ∷ 5 ∷ [])
 
 -- evaluations: substitutes, and the list lent
@@ -251,37 +251,44 @@ unfoldable evaluations : List Row
 evaluations =
     row "means of no, one and two readings" (fresh list (replicate 9 0))
     (submit 1 producer 28 1 (plus 1000) returns 1 ∷ submit 2 first 21 1 (minus 1) returns 2 ∷ submit 3 first 14 1 (minus 2) returns 3
-    ∷ evaluate 28 1 1 gives 2 rounds (0 ∷ 0 ∷ 0 ∷ 0 ∷ 1000 ∷ 7 ∷ []) ∷ evaluate 28 1 2 gives 2 rounds (1 ∷ 0 ∷ 0 ∷ 0 ∷ 999 ∷ 7 ∷ [])
-    ∷ evaluate 28 1 3 gives 2 rounds (2 ∷ 0 ∷ 0 ∷ 0 ∷ 998 ∷ 7 ∷ []) ∷ [])
+    ∷ evaluate 28 1 1 gives 2 rounds (0 ∷ 0 ∷ 0 ∷ 0 ∷ 1000 ∷ 0 ∷ 6 ∷ 6 ∷ 7 ∷ []) ∷ evaluate 28 1 2 gives 2 rounds (1 ∷ 0 ∷ 0 ∷ 0 ∷ 999 ∷ 0 ∷ 1 ∷ 6 ∷ 7 ∷ [])
+    ∷ evaluate 28 1 3 gives 2 rounds (2 ∷ 0 ∷ 0 ∷ 0 ∷ 998 ∷ 0 ∷ 2 ∷ 6 ∷ 7 ∷ []) ∷ [])
     (3 ∷ 0 ∷ 0 ∷ 3 ∷ []) (1 ∷ 2800 ∷ 1000 ∷ 2 ∷ 2778000 ∷ 1 ∷ 3 ∷ 2777300 ∷ 2 ∷ []) ∷
+    row "means of zeros, and of three and four readings" (fresh list (replicate 12 0))
+    (submit 1 first 21 1 (minus 0) returns 1 ∷ submit 2 first 14 1 (minus 0) returns 2 ∷ submit 3 first 7 1 (minus 0) returns 3
+    ∷ submit 4 first 0 1 (minus 4) returns 4
+    ∷ evaluate 28 1 1 gives 2 rounds (0 ∷ 0 ∷ 0 ∷ 0 ∷ 0 ∷ 6 ∷ 1 ∷ 6 ∷ 7 ∷ []) ∷ evaluate 28 1 2 gives 2 rounds (0 ∷ 0 ∷ 0 ∷ 0 ∷ 0 ∷ 6 ∷ 2 ∷ 6 ∷ 7 ∷ [])
+    ∷ evaluate 28 1 3 gives 2 rounds (0 ∷ 0 ∷ 0 ∷ 0 ∷ 0 ∷ 6 ∷ 3 ∷ 6 ∷ 7 ∷ []) ∷ evaluate 28 1 4 gives 2 rounds (0 ∷ 0 ∷ 1 ∷ 0 ∷ 0 ∷ 6 ∷ 4 ∷ 6 ∷ 7 ∷ [])
+    ∷ [])
+    (4 ∷ 0 ∷ 0 ∷ 4 ∷ []) (1 ∷ 2778000 ∷ 0 ∷ 2 ∷ 2777300 ∷ 0 ∷ 3 ∷ 2776600 ∷ 0 ∷ 4 ∷ 2775900 ∷ 4 ∷ []) ∷
     row "7, 14, 21 and 28 days before, each alone" (fresh list (replicate 12 0))
     (submit 1 producer 21 1 (plus 11) returns 1 ∷ submit 2 producer 14 2 (plus 22) returns 2 ∷ submit 3 producer 7 3 (plus 33) returns 3
     ∷ submit 4 producer 0 4 (plus 44) returns 4
-    ∷ evaluate 28 1 4 gives 2 rounds (0 ∷ 0 ∷ 0 ∷ 0 ∷ 11 ∷ 7 ∷ []) ∷ evaluate 28 2 4 gives 2 rounds (0 ∷ 0 ∷ 0 ∷ 0 ∷ 22 ∷ 7 ∷ [])
-    ∷ evaluate 28 3 4 gives 2 rounds (0 ∷ 0 ∷ 0 ∷ 0 ∷ 33 ∷ 7 ∷ []) ∷ evaluate 28 4 4 gives 2 rounds (0 ∷ 0 ∷ 0 ∷ 0 ∷ 44 ∷ 7 ∷ [])
-    ∷ evaluate 28 5 4 gives 2 rounds (0 ∷ 0 ∷ 0 ∷ 0 ∷ 0 ∷ 7 ∷ []) ∷ [])
+    ∷ evaluate 28 1 4 gives 2 rounds (0 ∷ 0 ∷ 0 ∷ 0 ∷ 11 ∷ 1 ∷ 6 ∷ 6 ∷ 7 ∷ []) ∷ evaluate 28 2 4 gives 2 rounds (0 ∷ 0 ∷ 0 ∷ 0 ∷ 22 ∷ 1 ∷ 6 ∷ 6 ∷ 7 ∷ [])
+    ∷ evaluate 28 3 4 gives 2 rounds (0 ∷ 0 ∷ 0 ∷ 0 ∷ 33 ∷ 1 ∷ 6 ∷ 6 ∷ 7 ∷ []) ∷ evaluate 28 4 4 gives 2 rounds (0 ∷ 0 ∷ 0 ∷ 0 ∷ 44 ∷ 1 ∷ 6 ∷ 6 ∷ 7 ∷ [])
+    ∷ evaluate 28 5 4 gives 2 rounds (0 ∷ 0 ∷ 0 ∷ 0 ∷ 0 ∷ 6 ∷ 6 ∷ 6 ∷ 7 ∷ []) ∷ [])
     (4 ∷ 0 ∷ 0 ∷ 4 ∷ []) (1 ∷ 2100 ∷ 11 ∷ 2 ∷ 1401 ∷ 22 ∷ 3 ∷ 702 ∷ 33 ∷ 4 ∷ 3 ∷ 44 ∷ []) ∷
     statusRow "status 1" 1 ∷ statusRow "status 2" 2 ∷ statusRow "status 3" 3 ∷
     row "each point by its own status" (fresh (group 0 1 1 6000) (replicate 9 0))
     (submit 1 producer 28 1 (plus 1000) returns 1 ∷ submit 2 first 21 1 (minus 1) returns 2 ∷ submit 3 second 21 1 (minus 3) returns 3
-    ∷ evaluate 28 1 3 gives 2 rounds (0 ∷ 3 ∷ 0 ∷ 0 ∷ 997 ∷ 7 ∷ []) ∷ [])
+    ∷ evaluate 28 1 3 gives 2 rounds (0 ∷ 3 ∷ 0 ∷ 0 ∷ 997 ∷ 0 ∷ 5 ∷ 1 ∷ 7 ∷ []) ∷ [])
     (3 ∷ 0 ∷ 0 ∷ 3 ∷ []) (1 ∷ 2800 ∷ 1000 ∷ 2 ∷ 2778000 ∷ 1 ∷ 3 ∷ 5553900 ∷ 3 ∷ []) ∷
     row "28 days before but not 1, not 35, and no other quarter" (fresh list (replicate 12 0))
     (submit 1 producer 28 2 (plus 1000) returns 1 ∷ submit 2 first 27 2 (minus 5) returns 2 ∷ submit 3 first 28 1 (minus 5) returns 3
     ∷ submit 4 first 0 2 (minus 9) returns 4
-    ∷ evaluate 28 2 3 gives 2 rounds (0 ∷ 0 ∷ 0 ∷ 0 ∷ 1000 ∷ 7 ∷ []) ∷ evaluate 28 2 4 gives 2 rounds (9 ∷ 0 ∷ 0 ∷ 0 ∷ 991 ∷ 7 ∷ [])
-    ∷ evaluate 35 2 4 gives 2 rounds (0 ∷ 0 ∷ 0 ∷ 0 ∷ 1000 ∷ 7 ∷ []) ∷ [])
+    ∷ evaluate 28 2 3 gives 2 rounds (0 ∷ 0 ∷ 0 ∷ 0 ∷ 1000 ∷ 0 ∷ 6 ∷ 6 ∷ 7 ∷ []) ∷ evaluate 28 2 4 gives 2 rounds (9 ∷ 0 ∷ 0 ∷ 0 ∷ 991 ∷ 0 ∷ 1 ∷ 6 ∷ 7 ∷ [])
+    ∷ evaluate 35 2 4 gives 2 rounds (0 ∷ 0 ∷ 0 ∷ 0 ∷ 1000 ∷ 1 ∷ 6 ∷ 6 ∷ 7 ∷ []) ∷ [])
     (4 ∷ 0 ∷ 0 ∷ 4 ∷ []) (1 ∷ 2801 ∷ 1000 ∷ 2 ∷ 2778601 ∷ 5 ∷ 3 ∷ 2778700 ∷ 5 ∷ 4 ∷ 2775901 ∷ 9 ∷ []) ∷
     row "a result list too short, and one just long enough" (fresh list (replicate 3 0))
-    (submit 1 producer 1 1 (plus 5) returns 1 ∷ Evaluation 1 1 1 (replicate 4 7) refused 16 ∷ Evaluation 1 1 1 [] refused 16
-    ∷ Evaluation 1 1 1 (replicate 5 7) gives 2 rounds (0 ∷ 0 ∷ 0 ∷ 0 ∷ 5 ∷ []) ∷ [])
+    (submit 1 producer 1 1 (plus 5) returns 1 ∷ Evaluation 1 1 1 (replicate 7 7) refused 16 ∷ Evaluation 1 1 1 (replicate 5 7) refused 16
+    ∷ Evaluation 1 1 1 [] refused 16 ∷ Evaluation 1 1 1 (replicate 8 7) gives 2 rounds (0 ∷ 0 ∷ 0 ∷ 0 ∷ 5 ∷ 0 ∷ 6 ∷ 6 ∷ []) ∷ [])
     (1 ∷ 0 ∷ 0 ∷ 1 ∷ []) (1 ∷ 100 ∷ 5 ∷ []) ∷ []
 
 -- damaged records and journals beside undamaged ones
 unfoldable damages : List Row
 damages =
     row "undamaged: each call is accepted" (held list 5 3 10 2 (4 ∷ 1000 ∷ 100 ∷ 5 ∷ 2776900 ∷ 100 ∷ 0 ∷ 0 ∷ 0 ∷ []))
-    (submit 6 first 20 1 (minus 1) returns 6 ∷ evaluate 38 1 5 gives 2 rounds (64 ∷ 0 ∷ 36 ∷ 0 ∷ 36 ∷ 7 ∷ []) ∷ clear 20 5 returns 2 ∷ [])
+    (submit 6 first 20 1 (minus 1) returns 6 ∷ evaluate 38 1 5 gives 2 rounds (64 ∷ 0 ∷ 36 ∷ 0 ∷ 36 ∷ 1 ∷ 1 ∷ 6 ∷ 7 ∷ []) ∷ clear 20 5 returns 2 ∷ [])
     (6 ∷ 5 ∷ 20 ∷ 1 ∷ []) (6 ∷ 2777900 ∷ 1 ∷ 0 ∷ 0 ∷ 0 ∷ 0 ∷ 0 ∷ 0 ∷ []) ∷
     row "undamaged: the greatest numbers" (held list 999999999999 999999999999 27758 1 (999999999999 ∷ 8327695 ∷ 99999999 ∷ []))
     (clear 27758 999999999999 returns 0 ∷ [])
@@ -338,5 +345,5 @@ listSeen = seenOf list (replicate 9 0) (map (λ line. line .call) listLines)
 
 -- every row is right
 cases : agree listLines listSeen && right (listed ++ submissions ++ clears ++ evaluations ++ damages) ≡ true
-unfolding agree follow right listLines listed submissions clears evaluations damages group same joined every sumBelow differ placed yearLength monthLength daysBeforeYear daysBeforeMonth lastUpTo yearOf lastSunday quartersOf quarterExists refuse_if_else_ isCode weighted pairsRight isDamaged empty leftAt roundsOf roundOf afterRounds allocationOf sumOf nearest weaker shown keep entries flat written entryRight entriesRight earlier existing magnitudeOf evaluationOf indexOf damaged submissionVerdict clearVerdict earliest evaluationVerdict submitted cleared evaluated step callOn run
+unfolding agree follow right listLines listed submissions clears evaluations damages group same joined every sumBelow differ placed yearLength monthLength daysBeforeYear daysBeforeMonth lastUpTo yearOf lastSunday quartersOf quarterExists refuse_if_else_ isCode weighted pairsRight isDamaged empty leftAt roundsOf roundOf afterRounds allocationOf sumOf nearest weaker shown keep entries flat written entryRight entriesRight earlier existing lookedUp resultFrom evaluationOf indexOf damaged submissionVerdict clearVerdict earliest evaluationVerdict submitted cleared evaluated step callOn run
 cases = refl

@@ -24,19 +24,19 @@ use Rattle.journal.specs.Stored.{entries, flat, written}
 use Rattle.journal.specs.Damage.{entryRight, entriesRight}
 use Rattle.allocation.specs.Rounds.{roundsOf, leftAt, roundOf, afterRounds}
 use Rattle.allocation.specs.Result.{allocationOf}
-use Rattle.evaluation.specs.Mean.{sumOf, nearest}
-use Rattle.evaluation.specs.Earlier.{earlier}
-use Rattle.evaluation.specs.Substitutes.{existing, magnitudeOf}
-use Rattle.evaluation.specs.Evaluation.{evaluationOf}
+use Rattle.lookup.specs.Mean.{sumOf, nearest}
+use Rattle.lookup.specs.Earlier.{earlier}
+use Rattle.lookup.specs.Substitutes.{existing, lookedUp}
+use Rattle.evaluation.specs.Evaluation.{resultFrom, evaluationOf}
 use Rattle.group.specs.Refusals.{damaged, submissionVerdict, clearVerdict, earliest, evaluationVerdict}
 use Rattle.service.specs.Calls.{submitted, cleared, evaluated, step}
 use Rattle.service.specs.Record.{callOn}
 use Rattle.event_reader.specs.Events.{submissionIn, clearIn, evaluationIn, eventIn}
-use Rattle.event_writer.specs.Answers.{linesOfConsumer, linesS, linesOfRemaining, linesOfResult}
+use Rattle.event_writer.specs.Answers.{linesOfConsumer, linesS, linesOfPoints, linesOfResult}
 use Rattle.event_calls.specs.Replies.{replyTo}
 use Rattle.event_text.specs.Share.{linesOf, registrationIn, eventsIn, answersTo, openingVerdict, share}
 use Rattle.case_table.specs.Table.{bytes, text, TableHolds}
 
 pub table-holds : TableHolds
-unfolding bytes text refuse_if_else_ every sumBelow differ joined placed yearLength monthLength daysBeforeYear daysBeforeMonth lastUpTo dayOf yearOf lastSunday quartersOf quarterExists columnOf leadOf valueFrom sameBytes numberIn hasMinus signedIn numbersIn total columnsOf firstLine afterLine lineIn isCode weighted pairsRight isDamaged empty widthsOfPairs readText readG readD readO fixedIn restIn verdictG verdictD verdictO verdictOfAll withPoint withCount withPair withPairs indexOf weaker shown keep entries flat written entryRight entriesRight roundsOf leftAt roundOf afterRounds allocationOf sumOf nearest earlier existing magnitudeOf evaluationOf damaged submissionVerdict clearVerdict earliest evaluationVerdict submitted cleared evaluated step callOn submissionIn clearIn evaluationIn eventIn linesOfConsumer linesS linesOfRemaining linesOfResult replyTo linesOf registrationIn eventsIn answersTo openingVerdict share
+unfolding bytes text refuse_if_else_ every sumBelow differ joined placed yearLength monthLength daysBeforeYear daysBeforeMonth lastUpTo dayOf yearOf lastSunday quartersOf quarterExists columnOf leadOf valueFrom sameBytes numberIn hasMinus signedIn numbersIn total columnsOf firstLine afterLine lineIn isCode weighted pairsRight isDamaged empty widthsOfPairs readText readG readD readO fixedIn restIn verdictG verdictD verdictO verdictOfAll withPoint withCount withPair withPairs indexOf weaker shown keep entries flat written entryRight entriesRight roundsOf leftAt roundOf afterRounds allocationOf sumOf nearest earlier existing lookedUp resultFrom evaluationOf damaged submissionVerdict clearVerdict earliest evaluationVerdict submitted cleared evaluated step callOn submissionIn clearIn evaluationIn eventIn linesOfConsumer linesS linesOfPoints linesOfResult replyTo linesOf registrationIn eventsIn answersTo openingVerdict share
 table-holds = refl

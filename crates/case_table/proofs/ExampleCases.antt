@@ -16,7 +16,7 @@ use Rattle.registration.specs.Damage.{isDamaged}
 use Rattle.registration.specs.Pairs.{ofConsumer, ofProducer}
 use Rattle.allocation.specs.Rounds.{withdrawalAt, roundsOf, leftAt, offerIn, shareIn, roundOf, afterRounds, received}
 use Rattle.allocation.specs.Result.{startOf, pairsOf, roundsFor}
-use Rattle.evaluation.specs.Mean.{sumOf, nearest, meanOf}
+use Rattle.lookup.specs.Mean.{sumOf, nearest, meanOf}
 use Rattle.case_table.proofs.Same.{same}
 
 -- a producer that a consumer names, by its number, and the key
@@ -195,7 +195,7 @@ values has mean = record { values = values; mean = mean }
 
 unfoldable means : List Mean
 means =
-    ((1 ∷ []) has 1) ∷ ((1 ∷ 2 ∷ []) has 2) ∷ ([] has 0) ∷ ((1 ∷ 1 ∷ 2 ∷ []) has 1) ∷ ((1 ∷ 2 ∷ 2 ∷ []) has 2) ∷ ((0 ∷ 0 ∷ 0 ∷ 1 ∷ []) has 0)
+    ((1 ∷ []) has 1) ∷ ((1 ∷ 2 ∷ []) has 2) ∷ ((1 ∷ 1 ∷ 2 ∷ []) has 1) ∷ ((1 ∷ 2 ∷ 2 ∷ []) has 2) ∷ ((0 ∷ 0 ∷ 0 ∷ 1 ∷ []) has 0)
     ∷ ((0 ∷ 0 ∷ 1 ∷ 1 ∷ []) has 1) ∷ ((99999999 ∷ 99999999 ∷ 99999999 ∷ 99999998 ∷ []) has 99999999) ∷ []
 
 -- the mean of the values is the row's

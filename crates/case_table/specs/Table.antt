@@ -59,7 +59,10 @@ listResult =
     "S   2   1       780" ∷
     "U   1         0" ∷
     "U   2       120" ∷
-    "V   1       121" ∷ []
+    "V   1       121" ∷
+    "W   1 0" ∷
+    "W   2 0" ∷
+    "W   3 0" ∷ []
 
 -- as of 1001 the second consumer has no reading, nor one in an earlier week; a repeat gets the stamp of the first reading, and a correction does not alter
 -- the result as of 1002
@@ -77,7 +80,10 @@ listRows =
     "S   2   1         0" ∷
     "U   1         0" ∷
     "U   2         0" ∷
-    "V   1       901" ∷ []))
+    "V   1       901" ∷
+    "W   1 0" ∷
+    "W   2 0" ∷
+    "W   3 6" ∷ []))
     ∷
     row "LIST with a repeat and a correction"
     (listGroup ++ listReadings ++
@@ -93,7 +99,10 @@ listRows =
     "S   2   1       660" ∷
     "U   1         0" ∷
     "U   2       240" ∷
-    "V   1        41" ∷ []))
+    "V   1        41" ∷
+    "W   1 0" ∷
+    "W   2 0" ∷
+    "W   3 0" ∷ []))
     ∷ []
 
 -- ---- the published method's examples with iteration
@@ -113,7 +122,9 @@ exampleRows =
     "R   0 1" ∷
     "S   1   1       422" ∷
     "U   1         0" ∷
-    "V   1       529" ∷ [])
+    "V   1       529" ∷
+    "W   1 0" ∷
+    "W   2 0" ∷ [])
     ∷
     row "example 2: a cottage and a flat"
     ("G   1   2 1" ∷
@@ -132,7 +143,10 @@ exampleRows =
     "S   2   1       608" ∷
     "U   1         0" ∷
     "U   2       613" ∷
-    "V   1       106" ∷ [])
+    "V   1       106" ∷
+    "W   1 0" ∷
+    "W   2 0" ∷
+    "W   3 0" ∷ [])
     ∷
     row "example 4: town hall, library and nursery school of a municipality"
     ("G   2   3 1" ∷
@@ -162,7 +176,12 @@ exampleRows =
     "U   2         0" ∷
     "U   3       173" ∷
     "V   1       154" ∷
-    "V   2      9340" ∷ [])
+    "V   2      9340" ∷
+    "W   1 0" ∷
+    "W   2 0" ∷
+    "W   3 0" ∷
+    "W   4 0" ∷
+    "W   5 0" ∷ [])
     ∷ []
 
 -- ---- codes ..071 and ..072
@@ -208,6 +227,9 @@ firstEventRows =
     "U   1         0" ∷
     "U   2         0" ∷
     "V   1         0" ∷
+    "W   1 6" ∷
+    "W   2 6" ∷
+    "W   3 6" ∷
     "A   1            0" ∷ [])
     ∷ []
 
@@ -352,6 +374,54 @@ remaining =
     "V  44         0" ∷
     "V  45         0" ∷ []
 
+-- nor has any of them a reading, in this week or an earlier one
+abbrev pub lacking : List String
+lacking =
+    "W   2 6" ∷
+    "W   3 6" ∷
+    "W   4 6" ∷
+    "W   5 6" ∷
+    "W   6 6" ∷
+    "W   7 6" ∷
+    "W   8 6" ∷
+    "W   9 6" ∷
+    "W  10 6" ∷
+    "W  11 6" ∷
+    "W  12 6" ∷
+    "W  13 6" ∷
+    "W  14 6" ∷
+    "W  15 6" ∷
+    "W  16 6" ∷
+    "W  17 6" ∷
+    "W  18 6" ∷
+    "W  19 6" ∷
+    "W  20 6" ∷
+    "W  21 6" ∷
+    "W  22 6" ∷
+    "W  23 6" ∷
+    "W  24 6" ∷
+    "W  25 6" ∷
+    "W  26 6" ∷
+    "W  27 6" ∷
+    "W  28 6" ∷
+    "W  29 6" ∷
+    "W  30 6" ∷
+    "W  31 6" ∷
+    "W  32 6" ∷
+    "W  33 6" ∷
+    "W  34 6" ∷
+    "W  35 6" ∷
+    "W  36 6" ∷
+    "W  37 6" ∷
+    "W  38 6" ∷
+    "W  39 6" ∷
+    "W  40 6" ∷
+    "W  41 6" ∷
+    "W  42 6" ∷
+    "W  43 6" ∷
+    "W  44 6" ∷
+    "W  45 6" ∷ []
+
 -- the first consumer receives 200, 120, 86, 68 and 55 in five rounds, the second 200 and 50; in one round each receives 200
 abbrev pub sizeRows : List Row
 sizeRows =
@@ -371,7 +441,12 @@ sizeRows =
     "U   3         0" ∷
     "U   4         0" ∷
     "U   5         0" ∷
-    "V   1       221" ∷ []) ++ remaining)
+    "V   1       221" ∷ []) ++ remaining ++ ("W   1 0" ∷ []) ++ lacking ++
+    ("W  46 0" ∷
+    "W  47 0" ∷
+    "W  48 6" ∷
+    "W  49 6" ∷
+    "W  50 6" ∷ []))
     ∷
     row "51 points: 1 round"
     (("G  46   5 1" ∷ []) ++ producers ++ ("D 859182400220100455 0" ∷ []) ++ consumers ++ events)
@@ -389,7 +464,15 @@ sizeRows =
     "U   3         0" ∷
     "U   4         0" ∷
     "U   5         0" ∷
-    "V   1       600" ∷ []) ++ remaining ++ ("V  46         0" ∷ []))
+    "V   1       600" ∷ []) ++ remaining ++
+    ("V  46         0" ∷
+    "W   1 0" ∷ []) ++ lacking ++
+    ("W  46 6" ∷
+    "W  47 0" ∷
+    "W  48 0" ∷
+    "W  49 6" ∷
+    "W  50 6" ∷
+    "W  51 6" ∷ []))
     ∷ []
 
 -- ---- limits of the registration
@@ -450,7 +533,13 @@ limitRows =
     "V   2       164" ∷
     "V   3       279" ∷
     "V   4       378" ∷
-    "V   5         0" ∷ [])
+    "V   5         0" ∷
+    "W   1 0" ∷
+    "W   2 0" ∷
+    "W   3 0" ∷
+    "W   4 0" ∷
+    "W   5 0" ∷
+    "W   6 0" ∷ [])
     ∷
     row "six producers named: refused"
     (("G   6   1 1" ∷ []) ++ fiveProducers ++
@@ -474,7 +563,7 @@ limitRows =
 
 -- ---- means
 
--- the producer has no reading on 20240129, but has some one and two weeks before
+-- the producer has no reading on 20240129, but has some one and two weeks before; the consumers have none
 abbrev pub meanRows : List Row
 meanRows =
     row "the mean of one reading is its value"
@@ -487,7 +576,10 @@ meanRows =
     "S   2   1         0" ∷
     "U   1         0" ∷
     "U   2         0" ∷
-    "V   1         1" ∷ [])
+    "V   1         1" ∷
+    "W   1 1" ∷
+    "W   2 6" ∷
+    "W   3 6" ∷ [])
     ∷
     row "the mean of readings 1 and 2 is 2"
     (listGroup ++
@@ -501,7 +593,99 @@ meanRows =
     "S   2   1         0" ∷
     "U   1         0" ∷
     "U   2         0" ∷
-    "V   1         2" ∷ [])
+    "V   1         2" ∷
+    "W   1 2" ∷
+    "W   2 6" ∷
+    "W   3 6" ∷ [])
+    ∷ []
+
+-- ---- origins
+
+-- points with readings on none, one, two, three and four of 20240101, 20240108, 20240115 and 20240122, evaluated a week later; the one with a status above
+-- 0 counts zero, but by its reading where it has one
+abbrev pub originRows : List Row
+originRows =
+    row "an origin of each number, and none after a refused R line"
+    ("G   1   6 0" ∷
+    "D 859182400220162071 0" ∷
+    "O 859182400220162088 0 1   1  1000" ∷
+    "O 859182400220162095 0 1   1  1000" ∷
+    "O 859182400220009123 0 1   1  1000" ∷
+    "O 859182400220009260 0 1   1  1000" ∷
+    "O 859182400220009499 2 1   1  1000" ∷
+    "O 859182400220095201 0 1   1  1000" ∷
+    "M         1000 859182400220162071 20240129   1         0" ∷
+    "M         1000 859182400220162088 20240122   1         0" ∷
+    "M         1000 859182400220162095 20240122   1        -3" ∷
+    "M         1000 859182400220162095 20240115   1         0" ∷
+    "M         1000 859182400220009123 20240115   1        -1" ∷
+    "M         1000 859182400220009123 20240108   1        -1" ∷
+    "M         1000 859182400220009123 20240101   1        -2" ∷
+    "M         1000 859182400220009260 20240122   1        -1" ∷
+    "M         1000 859182400220009260 20240115   1        -1" ∷
+    "M         1000 859182400220009260 20240108   1        -2" ∷
+    "M         1000 859182400220009260 20240101   1        -2" ∷
+    "M         1000 859182400220009499 20240122   1        -9" ∷
+    "E 20240129   1         1011" ∷
+    "E 20240129   1         1012" ∷
+    "M         1000 859182400220009499 20240129   1         0" ∷
+    "E 20240129   1         1012" ∷ [])
+    ("A   0         1000" ∷
+    "A   0         1001" ∷
+    "A   0         1002" ∷
+    "A   0         1003" ∷
+    "A   0         1004" ∷
+    "A   0         1005" ∷
+    "A   0         1006" ∷
+    "A   0         1007" ∷
+    "A   0         1008" ∷
+    "A   0         1009" ∷
+    "A   0         1010" ∷
+    "A   0         1011" ∷
+    "R   0 1" ∷
+    "S   1   1         0" ∷
+    "S   2   1         0" ∷
+    "S   3   1         0" ∷
+    "S   4   1         0" ∷
+    "S   5   1         0" ∷
+    "S   6   1         0" ∷
+    "U   1         0" ∷
+    "U   2         2" ∷
+    "U   3         1" ∷
+    "U   4         2" ∷
+    "U   5         0" ∷
+    "U   6         0" ∷
+    "V   1         0" ∷
+    "W   1 0" ∷
+    "W   2 1" ∷
+    "W   3 2" ∷
+    "W   4 3" ∷
+    "W   5 4" ∷
+    "W   6 5" ∷
+    "W   7 6" ∷
+    "R  12 0" ∷
+    "A   0         1012" ∷
+    "R   0 1" ∷
+    "S   1   1         0" ∷
+    "S   2   1         0" ∷
+    "S   3   1         0" ∷
+    "S   4   1         0" ∷
+    "S   5   1         0" ∷
+    "S   6   1         0" ∷
+    "U   1         0" ∷
+    "U   2         2" ∷
+    "U   3         1" ∷
+    "U   4         2" ∷
+    "U   5         0" ∷
+    "U   6         0" ∷
+    "V   1         0" ∷
+    "W   1 0" ∷
+    "W   2 1" ∷
+    "W   3 2" ∷
+    "W   4 3" ∷
+    "W   5 4" ∷
+    "W   6 0" ∷
+    "W   7 6" ∷ [])
     ∷ []
 
 -- ---- K 100
@@ -527,6 +711,9 @@ clearRows =
     "U   1         0" ∷
     "U   2         0" ∷
     "V   1       500" ∷
+    "W   1 1" ∷
+    "W   2 6" ∷
+    "W   3 6" ∷
     "A  11            0" ∷ [])
     ∷ []
 
@@ -628,7 +815,7 @@ refusedEventRows =
 
 -- all rows
 abbrev pub rows : List Row
-rows = listRows ++ exampleRows ++ codeRows ++ firstEventRows ++ dayRows ++ sizeRows ++ limitRows ++ meanRows ++ clearRows ++ refusedGroupRows ++ refusedEventRows
+rows = listRows ++ exampleRows ++ codeRows ++ firstEventRows ++ dayRows ++ sizeRows ++ limitRows ++ meanRows ++ originRows ++ clearRows ++ refusedGroupRows ++ refusedEventRows
 
 -- what program `share` writes for a row's input
 abbrev pub writes : Row → List ℕ

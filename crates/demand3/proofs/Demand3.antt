@@ -10,7 +10,7 @@ use Rattle.answers.specs.declared.Refusal.the-variants.{Damaged}
 use Rattle.calendar.specs.Quarters.{quarterExists}
 use Rattle.registration.specs.declared.Registration.{Registration}
 use Rattle.registration.specs.Damage.{isDamaged}
-use Rattle.allocation.specs.Result.{Allocation}
+use Rattle.evaluation.specs.Evaluation.{Result}
 use Rattle.service.specs.Call.{Call, Evaluation, Seen, refused}
 use Rattle.service.specs.Record.{freshService}
 use Rattle.demand3.specs.Book.{Book, newBook, bookAfter, bookResult}
@@ -63,7 +63,7 @@ module _ (r : Registration) (day quarter T : ℕ) where
 module _ (r : Registration) (h : isDamaged r ≡ false) (journal : List ℕ) (calls : List Call) (i k day quarter T : ℕ) (lent lent′ : List ℕ) (a a′ : Seen)
     (m : Made calls (seenOf r journal calls) i (Evaluation day quarter T lent) a) (e : refused a ≡ false)
     (m′ : Made calls (seenOf r journal calls) k (Evaluation day quarter T lent′) a′) (e′ : refused a′ ≡ false) where
-  one-result : (result : Allocation) × Gives r result a × Gives r result a′
+  one-result : (result : Result) × Gives r result a × Gives r result a′
   one-result =
       Lists.pairs look next refused bookAfter RightByBook (Joint r) (right-at r) (joint-at r)
       (Asks r day quarter T) (λ b. bookResult b day quarter T) (Gives r) (Reached r day quarter T)

@@ -6,13 +6,12 @@ use mathlib.Core.List.{List, [], _∷_, _++_, map}
 use mathlib.Core.Option.{Option}
 use lib.Dec.{eqb}
 use Rattle.registration.specs.declared.Registration.{Registration}
-use Rattle.allocation.specs.Result.{Allocation}
 use Rattle.values.specs.declared.Measurement.{Measurement}
 use Rattle.journal.specs.Value.{valueOf}
 use Rattle.journal.specs.Order.{Reading}
 use Rattle.lists.specs.Those.{those}
 use Rattle.journal.specs.Readings.{strongest, sameAs, stampOf}
-use Rattle.evaluation.specs.Evaluation.{evaluationOf}
+use Rattle.evaluation.specs.Evaluation.{Result, evaluationOf}
 use Rattle.service.specs.Call.{Call, Submission, Clear, Evaluation}
 use Rattle.group.specs.Stamps.{nextStamp}
 
@@ -79,5 +78,5 @@ bookAfter b (Clear day stamp) false = b
 bookAfter b (Evaluation day quarter T lent) false = b
 
 -- the book's result for a day, quarter and T, by the rules for evaluation
-unfoldable pub bookResult : Book → (day quarter T : ℕ) → Allocation
+unfoldable pub bookResult : Book → (day quarter T : ℕ) → Result
 bookResult b day quarter T = evaluationOf (b .page .registration) (noted (b .page)) day quarter T

@@ -8,7 +8,7 @@ use Rattle.answers.specs.declared.Verdict.the-variants.{Refused}
 use Rattle.answers.specs.declared.Refusal.the-variants.{Damaged}
 use Rattle.registration.specs.declared.Registration.{Registration}
 use Rattle.registration.specs.Damage.{isDamaged}
-use Rattle.allocation.specs.Result.{Allocation}
+use Rattle.evaluation.specs.Evaluation.{Result}
 use Rattle.evaluation.specs.Layout.{Part, partIn, partOf}
 use Rattle.service.specs.declared.Service.{Service}
 use Rattle.service.specs.Call.{Call, Submission, Clear, Evaluation, Seen, refused}
@@ -35,10 +35,11 @@ next both call =
 abbrev pub seenOf : Registration → (journal : List ℕ) → List Call → List Seen
 seenOf r journal calls = run look next (record { service = freshService r; journal = journal }) calls
 
--- an evaluation gives a result of a registration: each part at its place, pair shares, remaining withdrawals and remaining supplies, and the round count
-pub record Gives (r : Registration) (result : Allocation) (seen : Seen) : Type 0 where
+-- an evaluation gives a result of a registration: each part at its place, pair shares, remaining withdrawals, remaining supplies and origins, and the
+-- round count
+pub record Gives (r : Registration) (result : Result) (seen : Seen) : Type 0 where
   pub parts : (part : Part) → partIn r part (seen .result) ≡ partOf result part
-  pub rounds : seen .number ≡ result .rounds
+  pub rounds : seen .number ≡ result .allocation .rounds
 
 -- what is right of an accepted call, by the book as the earlier calls made it
 abbrev pub RightByBook : Book → Call → Seen → Type 0
@@ -46,7 +47,7 @@ RightByBook book (Submission clock m) seen = seen .number ≡ bookStamp book clo
 RightByBook book (Clear day stamp) seen = Unit {0}
 RightByBook book (Evaluation day quarter T lent) seen = Gives (book .page .registration) (bookResult book day quarter T) seen
 
--- two evaluations are equal in each part of the result, pair shares, remaining withdrawals and remaining supplies, and in the round count
+-- two evaluations are equal in these five: each part of the result, pair shares, remaining withdrawals, remaining supplies and origins, and the round count
 pub record SameResult (r : Registration) (a b : Seen) : Type 0 where
   pub parts : (part : Part) → partIn r part (a .result) ≡ partIn r part (b .result)
   pub rounds : a .number ≡ b .number

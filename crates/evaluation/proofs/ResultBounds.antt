@@ -1,4 +1,4 @@
--- No number of a result is above the greatest magnitude. Assumes nothing.
+-- No number of a result is above what bounds its part: the greatest magnitude for energy, 6 for an origin. Assumes nothing.
 use Prim.Native.Nat.{ℕ, zero, suc, _+_, _≤_, _<_}
 use mathlib.Core.List.{List, [], _∷_, _++_}
 use native.Mathlib.Omega.{arith}
@@ -9,15 +9,19 @@ use Rattle.lists.specs.Place.{placed}
 use Rattle.lists.specs.Tables.{joined}
 use Rattle.lists.proofs.Cases.{by-test}
 use Rattle.lists.proofs.Sums.{sum-term}
+use Rattle.lists.proofs.TableLaws.{table-at}
 use Rattle.registration.specs.declared.Registration.{Registration}
-use Rattle.registration.specs.Rules.{countAt}
+use Rattle.registration.specs.Rules.{points, countAt}
 use Rattle.values.specs.Values.{magnitudeMost}
 use Rattle.allocation.specs.Input.{Shareable, Magnitudes}
 use Rattle.allocation.specs.Rounds.{received}
 use Rattle.allocation.specs.Result.{startOf, roundsFor, allocationOf, pairShare}
+use Rattle.lookup.specs.declared.PointValue.{PointValue}
+use Rattle.evaluation.specs.Evaluation.{resultFrom}
 use Rattle.allocation.proofs.Laws.{pair-received, allocation-keeps-supplies, allocation-keeps-withdrawals, allocation-lengths}
-use Rattle.evaluation.specs.Layout.{Part, Shares, Withdrawals, Supplies, sizeOf, partOf, resultOf}
-use Rattle.evaluation.proofs.Laws.{result-size}
+use Rattle.evaluation.specs.Layout.{Part, Shares, Withdrawals, Supplies, Origins, lengthOf, beginOf, partOf, resultOf}
+use Rattle.evaluation.proofs.Parts.{number-stands}
+use Rattle.evaluation.proofs.Laws.{has-lengths}
 
 -- each number of a list is at most the greatest magnitude; past its end there are zeros
 abbrev EachWithin : List ℕ → Type 0
@@ -44,9 +48,16 @@ within-end numbers h i =
     by-test (ltb i (length numbers)) (λ t. h i (ltb-true i (length numbers) t))
     (λ f. rw (List·getD-eq-default numbers 0 (ltb-false i (length numbers) f)) (omega arith))
 
--- no number of a result that stands at the front of a list is above the greatest magnitude
+-- what bounds the numbers of a part: the greatest magnitude, and 6 for an origin
+abbrev pub mostIn : Part → ℕ
+mostIn Shares = magnitudeMost
+mostIn Withdrawals = magnitudeMost
+mostIn Supplies = magnitudeMost
+mostIn Origins = 6
+
+-- no number of a result that stands at the front of a list is above what bounds its part
 abbrev pub ResultWithin : Registration → List ℕ → Type 0
-ResultWithin r numbers = (i : ℕ) → i < sizeOf r → getD numbers i 0 ≤ magnitudeMost
+ResultWithin r numbers = (part : Part) (i : ℕ) → i < lengthOf r part → getD numbers (beginOf r part + i) 0 ≤ mostIn part
 
 module _ (r : Registration) (magnitude : ℕ → ℕ) (s : Shareable r) (m : Magnitudes r magnitude) where
   -- a share is within its consumer's withdrawal
@@ -82,17 +93,17 @@ module _ (r : Registration) (magnitude : ℕ → ℕ) (s : Shareable r) (m : Mag
       let one-of : producer < r .producers = omega (arith, allocation-lengths r magnitude) in
       omega (arith, allocation-keeps-supplies r magnitude s producer one-of, m producer (omega arith)))
 
-  -- so it is in each part
-  part-within : (part : Part) → EachWithin (partOf (allocationOf r magnitude) part)
-  part-within Shares i = shares-within i
-  part-within Withdrawals i = omega (arith, withdrawals-within i, supplies-within i)
-  part-within Supplies i = omega (arith, withdrawals-within i, supplies-within i)
-
-  -- each number of the result, in the list that it is put into
-  pub result-within : (lent : List ℕ) → ResultWithin r (placed 0 (resultOf (allocationOf r magnitude)) lent)
-  unfolding placed
-  result-within lent i h =
-      let part = partOf (allocationOf r magnitude) in
-      rw (List·getD-append (resultOf (allocationOf r magnitude)) _ 0 i (omega (arith, result-size r magnitude)))
-      (append-within (part Shares) (part Withdrawals ++ part Supplies) (part-within Shares)
-      (append-within (part Withdrawals) (part Supplies) (part-within Withdrawals) (part-within Supplies)) i)
+-- the numbers of a result, in the list that it is put into
+pub result-within : (r : Registration) (value : ℕ → PointValue) → Shareable r → Magnitudes r (λ point. value point .magnitude)
+    → ((point : ℕ) → point < points r → value point .origin ≤ 6) → (lent : List ℕ) → ResultWithin r (placed 0 (resultOf (resultFrom r value)) lent)
+unfolding resultFrom
+result-within r value s m o lent part i h =
+    rw (number-stands r (resultFrom r value) (has-lengths r value) lent part i h) (within part i h)
+  where
+    within : (part : Part) (i : ℕ) → i < lengthOf r part → getD (partOf (resultFrom r value) part) i 0 ≤ mostIn part
+    within Shares i h = shares-within r (λ point. value point .magnitude) s m i
+    within Withdrawals i h = withdrawals-within r (λ point. value point .magnitude) s m i
+    within Supplies i h = supplies-within r (λ point. value point .magnitude) s m i
+    within Origins i h =
+        let point : i < points r = omega arith in
+        rw (table-at (λ point. value point .origin) (points r) i point) (o i point)

@@ -10,9 +10,9 @@ use Rattle.service.specs.Record.{withState}
 use Rattle.event_calls.specs.declared.Answered.{Answered}
 use Rattle.event_calls.specs.Replies.{Reply}
 
--- the room that an answer is given: an R line, 5 S lines for each of 63 consumers, a U or V line for each of 64 points
+-- the room that an answer is given: an R line, 5 S lines for each of 63 consumers, a U or V line and a W line for each of 64 points
 abbrev pub answerMost : ℕ
-answerMost = 7332
+answerMost = 7844
 
 -- an event was answered: the verdict on answering it, record and journal, the number of bytes written, and the buffer, whose later bytes stay
 pub record Replies (given : Verdict) (reply : Reply) (s : Service) (buffer : List ℕ) (answered : Answered) (journal′ buffer′ : List ℕ) : Type 0 where

@@ -3,6 +3,7 @@ use Prim.Native.Nat.{ℕ, _+_, _<_}
 use mathlib.Core.Path.{_≡_}
 use mathlib.Core.Bool.{true}
 use mathlib.Core.List.{List, [], _∷_}
+use native.Mathlib.Nat.{zero-add}
 use native.Mathlib.Omega.{arith}
 use borrow.Author.Tests.{lt-ltb}
 use Rattle.answers.specs.declared.Refusal.{Refusal}
@@ -15,14 +16,14 @@ use Rattle.registration.specs.declared.Registration.{Registration}
 use Rattle.allocation.specs.Input.{Shareable}
 use Rattle.allocation.proofs.Shareable.{few-points, pair-of}
 use Rattle.registration.specs.Pairs.{pairsBefore}
-use Rattle.evaluation.specs.Layout.{Withdrawals, Supplies, beginOf}
+use Rattle.evaluation.specs.Layout.{Shares, Withdrawals, Supplies, Origins}
 use Rattle.evaluation.proofs.Parts.{shares-there}
 use Rattle.evaluation.proofs.ResultBounds.{ResultWithin}
 use Rattle.service.specs.Call.{Submission, Clear, Evaluation}
 use Rattle.service.specs.Record.{callOn}
 use Rattle.service.proofs.Cores.{evaluation-asked}
 use Rattle.service.proofs.Returned.{stamp-returned, dropped-returned, rounds-returned, result-returned}
-use Rattle.event_writer.specs.Answers.{widthsA, widthsR, widthsS, widthsOfRemaining}
+use Rattle.event_writer.specs.Answers.{widthsA, widthsR, widthsS, widthsOfRemaining, widthsW}
 use Rattle.event_text.specs.Laws.{ResultFits, NumbersFit}
 use Rattle.event_calls.proofs.Sizes.{evaluation-passed}
 
@@ -43,6 +44,10 @@ fits-S consumer producer share h l m = rw (lt-ltb consumer 1000 h, lt-ltb produc
 fits-remaining : (point remaining : ℕ) → point < 1000 → remaining < 1000000000 → fitting widthsOfRemaining (point ∷ remaining ∷ []) ≡ true
 unfolding fitting
 fits-remaining point remaining h l = rw (lt-ltb point 1000 h, lt-ltb remaining 1000000000 l)
+
+fits-W : (point origin : ℕ) → point < 1000 → origin < 10 → fitting widthsW (point ∷ origin ∷ []) ≡ true
+unfolding fitting
+fits-W point origin h l = rw (lt-ltb point 1000 h, lt-ltb origin 10 l)
 
 -- the greatest number of a refusal is 16
 refusal-small : (refusal : Refusal) → numberOf refusal < 1000
@@ -73,9 +78,10 @@ result-fits r numbers s within =
     record {
       shares = λ consumer priority h l.
           fits-S (consumer + 1) _ _ (omega (arith, few-points s)) (omega (arith, few-points s, pair-of s consumer priority h l .source-most))
-          (omega (arith, within (pairsBefore r consumer + priority) (omega (arith, shares-there r consumer h))));
-      withdrawals = λ consumer h. fits-remaining (consumer + 1) _ (omega (arith, few-points s)) (omega (arith, within (beginOf r Withdrawals + consumer) (omega arith)));
-      supplies = λ producer h. fits-remaining (producer + 1) _ (omega (arith, few-points s)) (omega (arith, within (beginOf r Supplies + producer) (omega arith)));
+          (omega (arith, rw zero-add at (within Shares (pairsBefore r consumer + priority) (omega (arith, shares-there r consumer h)))));
+      withdrawals = λ consumer h. fits-remaining (consumer + 1) _ (omega (arith, few-points s)) (omega (arith, within Withdrawals consumer h));
+      supplies = λ producer h. fits-remaining (producer + 1) _ (omega (arith, few-points s)) (omega (arith, within Supplies producer h));
+      origins = λ point h. fits-W (point + 1) _ (omega (arith, few-points s)) (omega (arith, within Origins point h));
     }
 
 -- every call, whatever the record, on a journal of the program's size

@@ -13,14 +13,14 @@ use Rattle.lines.specs.Line.{firstLine, afterLine}
 use Rattle.registration.specs.declared.Registration.{Registration}
 use Rattle.registration.specs.Rules.{countAt, sourceAt}
 use Rattle.registration.specs.Pairs.{pairsBefore}
-use Rattle.evaluation.specs.Layout.{Withdrawals, Supplies, lengthOf, beginOf}
+use Rattle.evaluation.specs.Layout.{Withdrawals, Supplies, Origins, lengthOf, beginOf}
 use Rattle.service.specs.declared.Service.{Service}
 use Rattle.service.specs.Call.{Call, Submission, Clear, Evaluation, Seen}
 use Rattle.service.specs.Record.{callOn}
 use Rattle.demand3.specs.Demand3.{seenOf}
 use Rattle.event_reader.specs.declared.Event.{Event}
 use Rattle.event_reader.specs.Events.{eventIn}
-use Rattle.event_writer.specs.Answers.{widthsA, widthsR, widthsS, widthsOfRemaining}
+use Rattle.event_writer.specs.Answers.{widthsA, widthsR, widthsS, widthsOfRemaining, widthsW}
 use Rattle.event_calls.specs.Replies.{callOf, callText, refusalText, replyTo}
 use Rattle.event_text.specs.Share.{linesOf, eventsIn, registrationOf, answersTo, journalNumbers, openingVerdict, share}
 use Rattle.event_calls.specs.Contracts.{answerMost}
@@ -94,6 +94,8 @@ pub record ResultFits (r : Registration) (numbers : List ℕ) : Type 0 where
       → fitting widthsOfRemaining ((consumer + 1) ∷ getD numbers (beginOf r Withdrawals + consumer) 0 ∷ []) ≡ true
   pub supplies : (producer : ℕ) → producer < lengthOf r Supplies
       → fitting widthsOfRemaining ((producer + 1) ∷ getD numbers (beginOf r Supplies + producer) 0 ∷ []) ≡ true
+  pub origins : (point : ℕ) → point < lengthOf r Origins
+      → fitting widthsW ((point + 1) ∷ getD numbers (beginOf r Origins + point) 0 ∷ []) ≡ true
 
 -- each number of the answer to a call fits its column
 abbrev pub CallFits : Registration → Call → Seen → Type 0

@@ -1,7 +1,7 @@
 -- How long the lines of answers are, and the lines of a result as pieces that are put one after the other. Assumes nothing.
 use Prim.Native.Nat.{ℕ, _+_, _*_, _≤_}
 use mathlib.Core.Path.{_≡_, refl, _∙_}
-use mathlib.Core.List.{List}
+use mathlib.Core.List.{List, [], _∷_}
 use native.Mathlib.Omega.{arith}
 use lib.ListN.{length, getD, length-append}
 use Rattle.lists.specs.Below.{sumBelow}
@@ -13,11 +13,11 @@ use Rattle.lists.proofs.Pieces.{put-on}
 use Rattle.columns.specs.Fields.{total}
 use Rattle.lines.proofs.Laws.{length-line}
 use Rattle.registration.specs.declared.Registration.{Registration}
-use Rattle.registration.specs.Rules.{placeAt, countAt, sourceAt}
+use Rattle.registration.specs.Rules.{points, placeAt, countAt, sourceAt}
 use Rattle.evaluation.specs.declared.Layout.{Layout}
 use Rattle.registration.specs.Pairs.{pairsBefore, pairsIn}
-use Rattle.evaluation.specs.Layout.{LaidOut}
-use Rattle.event_writer.specs.Answers.{letterA, letterR, letterS, letterU, letterV, widthsA, widthsR, widthsS, widthsOfRemaining, lineA, bytesOfAnswer, lineR, bytesOfRounds, lineS, lineOfRemaining, linesOfConsumer, linesS, linesOfRemaining, linesOfResult, bytesOfResult}
+use Rattle.evaluation.specs.Layout.{Withdrawals, Supplies, Origins, lengthOf, beginOf, LaidOut}
+use Rattle.event_writer.specs.Answers.{letterA, letterR, letterS, letterU, letterV, letterW, widthsA, widthsR, widthsS, widthsOfRemaining, widthsW, lineA, bytesOfAnswer, lineR, bytesOfRounds, lineS, lineOfPoint, linesOfConsumer, linesS, linesOfPoints, linesOfResult, bytesOfResult}
 
 -- ---- the lines as pieces
 
@@ -40,14 +40,14 @@ pub consumers-joined : (r : Registration) (numbers : List ℕ)
 unfolding linesS
 consumers-joined r numbers = refl
 
--- the U or V line of a point
-abbrev pub remainingLine : (letter at : ℕ) → (numbers : List ℕ) → ℕ → List ℕ
-remainingLine letter at numbers point = lineOfRemaining letter point (getD numbers (at + point) 0)
+-- the U, V or W line of a point
+abbrev pub pointLine : (letter : ℕ) → (widths : List ℕ) → (at : ℕ) → (numbers : List ℕ) → ℕ → List ℕ
+pointLine letter widths at numbers point = lineOfPoint letter widths point (getD numbers (at + point) 0)
 
-pub remaining-joined : (letter at count : ℕ) (numbers : List ℕ)
-    → linesOfRemaining letter at count numbers ≡ joined (remainingLine letter at numbers) count
-unfolding linesOfRemaining
-remaining-joined letter at count numbers = refl
+pub points-joined : (letter : ℕ) (widths : List ℕ) (at count : ℕ) (numbers : List ℕ)
+    → linesOfPoints letter widths at count numbers ≡ joined (pointLine letter widths at numbers) count
+unfolding linesOfPoints
+points-joined letter widths at count numbers = refl
 
 -- ---- lengths
 
@@ -63,9 +63,9 @@ pub length-of-share : (consumer producer share : ℕ) → length (lineS consumer
 unfolding total
 length-of-share consumer producer share = length-line letterS widthsS _ refl
 
-pub length-of-point : (letter point remaining : ℕ) → length (lineOfRemaining letter point remaining) ≡ 16
+pub length-of-point : (letter width point number : ℕ) → length (lineOfPoint letter (4 ∷ width ∷ []) point number) ≡ width + 6
 unfolding total
-length-of-point letter point remaining = length-line letter widthsOfRemaining _ refl
+length-of-point letter width point number = length-line letter (4 ∷ width ∷ []) _ refl ∙ omega arith
 
 pub length-of-consumer : (source : ℕ → ℕ) (consumer count at : ℕ) (numbers : List ℕ)
     → length (linesOfConsumer source consumer count at numbers) ≡ 20 * count
@@ -79,14 +79,21 @@ length-of-shares r numbers =
     (λ consumer. length-of-consumer (sourceAt r consumer) consumer (countAt r consumer) (pairsBefore r consumer) numbers))
     ∙ sum-times 20 (countAt r) (r .consumers)
 
-pub length-of-remaining : (letter at count : ℕ) (numbers : List ℕ) → length (linesOfRemaining letter at count numbers) ≡ 16 * count
-length-of-remaining letter at count numbers =
-    rw remaining-joined (length-even _ 16 count (λ point. length-of-point letter point (getD numbers (at + point) 0)))
+pub length-of-points : (letter width at count : ℕ) (numbers : List ℕ)
+    → length (linesOfPoints letter (4 ∷ width ∷ []) at count numbers) ≡ (width + 6) * count
+length-of-points letter width at count numbers =
+    rw points-joined (length-even _ (width + 6) count (λ point. length-of-point letter width point (getD numbers (at + point) 0)))
 
 pub length-of-result : (r : Registration) (numbers : List ℕ) → length (linesOfResult r numbers) ≡ bytesOfResult r
 unfolding linesOfResult
 length-of-result r numbers =
-    rw (length-append, length-append, length-of-shares, length-of-remaining letterU, length-of-remaining letterV) (omega arith)
+    rw (length-append, length-append, length-append, length-of-shares)
+    (omega (
+      arith,
+      length-of-points letterU 10 (beginOf r Withdrawals) (lengthOf r Withdrawals) numbers,
+      length-of-points letterV 10 (beginOf r Supplies) (lengthOf r Supplies) numbers,
+      length-of-points letterW 2 (beginOf r Origins) (lengthOf r Origins) numbers,
+    ))
 
 -- ---- lines put one after the other
 
@@ -95,16 +102,18 @@ pub shares-end : (r : Registration) (numbers : List ℕ) {at next : ℕ} {before
     → next ≡ at + 20 * pairsIn r
 shares-end r numbers p = p .end ∙ rw length-of-shares
 
-pub remaining-end : (letter from count : ℕ) (numbers : List ℕ) {at next : ℕ} {before after : List ℕ}
-    → Put at (linesOfRemaining letter from count numbers) before after next → next ≡ at + 16 * count
-remaining-end letter from count numbers p = p .end ∙ rw length-of-remaining
+pub points-end : (letter width from count : ℕ) (numbers : List ℕ) {at next : ℕ} {before after : List ℕ}
+    → Put at (linesOfPoints letter (4 ∷ width ∷ []) from count numbers) before after next → next ≡ at + (width + 6) * count
+points-end letter width from count numbers p = p .end ∙ rw length-of-points
 
--- S, U and V lines in turn make the result
-pub result-put : (r : Registration) (numbers : List ℕ) {layout : Layout} {start first second end : ℕ} {before shares withdrawals after : List ℕ}
-    → LaidOut r layout → first ≤ length before → second ≤ length shares
+-- S, U, V and W lines in turn make the result
+pub result-put : (r : Registration) (numbers : List ℕ) {layout : Layout} {start first second third end : ℕ} {before shares withdrawals supplies after : List ℕ}
+    → LaidOut r layout → first ≤ length before → second ≤ length shares → third ≤ length withdrawals
     → Put start (linesS r numbers) before shares first
-    → Put first (linesOfRemaining letterU (layout .withdrawals) (r .consumers) numbers) shares withdrawals second
-    → Put second (linesOfRemaining letterV (layout .supplies) (r .producers) numbers) withdrawals after end
+    → Put first (linesOfPoints letterU widthsOfRemaining (layout .withdrawals) (r .consumers) numbers) shares withdrawals second
+    → Put second (linesOfPoints letterV widthsOfRemaining (layout .supplies) (r .producers) numbers) withdrawals supplies third
+    → Put third (linesOfPoints letterW widthsW (layout .origins) (points r) numbers) supplies after end
     → Put start (linesOfResult r numbers) before after end
 unfolding linesOfResult
-result-put r numbers laid l m p q s = put-on l p (put-on m (rw (laid .withdrawals) at q) (rw (laid .supplies) at s))
+result-put r numbers laid l m n p q s o =
+    put-on l p (put-on m (rw (laid .withdrawals) at q) (put-on n (rw (laid .supplies) at s) (rw (laid .origins) at o)))

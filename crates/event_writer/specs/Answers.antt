@@ -7,7 +7,7 @@ use Rattle.lines.specs.Lines.{lineOf}
 use Rattle.registration.specs.declared.Registration.{Registration}
 use Rattle.registration.specs.Rules.{countAt, sourceAt}
 use Rattle.registration.specs.Pairs.{pairsBefore}
-use Rattle.evaluation.specs.Layout.{Shares, Withdrawals, Supplies, lengthOf, beginOf}
+use Rattle.evaluation.specs.Layout.{Shares, Withdrawals, Supplies, Origins, lengthOf, beginOf}
 
 -- the letter A
 abbrev pub letterA : ℕ
@@ -29,6 +29,10 @@ letterU = 85
 abbrev pub letterV : ℕ
 letterV = 86
 
+-- the letter W
+abbrev pub letterW : ℕ
+letterW = 87
+
 -- A: answer, stamp or dropped count
 abbrev pub widthsA : List ℕ
 widthsA = 4 ∷ 13 ∷ []
@@ -44,6 +48,10 @@ widthsS = 4 ∷ 4 ∷ 10 ∷ []
 -- U: consumer, remaining withdrawal; V: producer, remaining supply
 abbrev pub widthsOfRemaining : List ℕ
 widthsOfRemaining = 4 ∷ 10 ∷ []
+
+-- W: point, origin
+abbrev pub widthsW : List ℕ
+widthsW = 4 ∷ 2 ∷ []
 
 -- the answer to a submission, a clear, a malformed line or a refused registration
 abbrev pub lineA : (answer number : ℕ) → List ℕ
@@ -65,9 +73,9 @@ bytesOfRounds = 8
 abbrev pub lineS : (consumer producer share : ℕ) → List ℕ
 lineS consumer producer share = lineOf letterS widthsS ((consumer + 1) ∷ producer ∷ share ∷ [])
 
--- a consumer or a producer, by its number from 1, and what remains of its withdrawal or supply
-abbrev pub lineOfRemaining : (letter point remaining : ℕ) → List ℕ
-lineOfRemaining letter point remaining = lineOf letter widthsOfRemaining ((point + 1) ∷ remaining ∷ [])
+-- a consumer, a producer or a point, by its number from 1, and what remains of its withdrawal or supply, or its origin
+abbrev pub lineOfPoint : (letter : ℕ) → (widths : List ℕ) → (point number : ℕ) → List ℕ
+lineOfPoint letter widths point number = lineOf letter widths ((point + 1) ∷ number ∷ [])
 
 -- the S lines of a consumer, whose shares stand in the result list from a place on: one line for each producer that it names, by priority
 unfoldable pub linesOfConsumer : (source : ℕ → ℕ) → (consumer count at : ℕ) → (numbers : List ℕ) → List ℕ
@@ -79,17 +87,18 @@ unfoldable pub linesS : Registration → (numbers : List ℕ) → List ℕ
 linesS r numbers =
     joined (λ consumer. linesOfConsumer (sourceAt r consumer) consumer (countAt r consumer) (pairsBefore r consumer) numbers) (r .consumers)
 
--- the U or V lines: so many numbers of the result list from a place on
-unfoldable pub linesOfRemaining : (letter at count : ℕ) → (numbers : List ℕ) → List ℕ
-linesOfRemaining letter at count numbers = joined (λ point. lineOfRemaining letter point (getD numbers (at + point) 0)) count
+-- the U, V or W lines: so many numbers of the result list from a place on
+unfoldable pub linesOfPoints : (letter : ℕ) → (widths : List ℕ) → (at count : ℕ) → (numbers : List ℕ) → List ℕ
+linesOfPoints letter widths at count numbers = joined (λ point. lineOfPoint letter widths point (getD numbers (at + point) 0)) count
 
--- a result list, line by line and part by part: pair shares, remaining withdrawals, remaining supplies
+-- a result list, line by line and part by part: pair shares, remaining withdrawals, remaining supplies, origins
 unfoldable pub linesOfResult : Registration → (numbers : List ℕ) → List ℕ
 linesOfResult r numbers =
     linesS r numbers
-    ++ (linesOfRemaining letterU (beginOf r Withdrawals) (lengthOf r Withdrawals) numbers
-    ++ linesOfRemaining letterV (beginOf r Supplies) (lengthOf r Supplies) numbers)
+    ++ (linesOfPoints letterU widthsOfRemaining (beginOf r Withdrawals) (lengthOf r Withdrawals) numbers
+    ++ (linesOfPoints letterV widthsOfRemaining (beginOf r Supplies) (lengthOf r Supplies) numbers
+    ++ linesOfPoints letterW widthsW (beginOf r Origins) (lengthOf r Origins) numbers))
 
--- how many bytes these lines take: 20 for each share, 16 for each remaining withdrawal and supply
+-- how many bytes these lines take: 20 for each share, 16 for each remaining withdrawal and supply, 8 for each origin
 abbrev pub bytesOfResult : Registration → ℕ
-bytesOfResult r = 20 * lengthOf r Shares + 16 * (lengthOf r Withdrawals + lengthOf r Supplies)
+bytesOfResult r = 20 * lengthOf r Shares + 16 * (lengthOf r Withdrawals + lengthOf r Supplies) + 8 * lengthOf r Origins

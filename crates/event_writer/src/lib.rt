@@ -1,11 +1,12 @@
-// The lines of answers, written into a lent buffer: A and R with the answer of a call; S, U and V with the result of an evaluation.
+// The lines of answers, written into a lent buffer: A and R with the answer of a call; S, U, V and W with the result of an evaluation.
 ghost use Prim.Native.Nat.{ℕ, _+_, _*_, _≤_, _<_};
+ghost use mathlib.Core.List.{[], _∷_};
 ghost use lib.ListN.{length};
 ghost use Rattle.lists.specs.Place.{Put};
 ghost use Rattle.registration.specs.Rules.{placeAt, countAt};
 ghost use Rattle.registration.specs.Pairs.{pairsIn};
 ghost use Rattle.evaluation.specs.Layout.{sizeOf};
-ghost use Rattle.event_writer.specs.Answers.{lineA, bytesOfAnswer, lineR, bytesOfRounds, linesOfConsumer, linesS, linesOfRemaining, linesOfResult, bytesOfResult};
+ghost use Rattle.event_writer.specs.Answers.{lineA, bytesOfAnswer, lineR, bytesOfRounds, linesOfConsumer, linesS, linesOfPoints, linesOfResult, bytesOfResult};
 use registration::Registration;
 
 // How many bytes an A line takes.
@@ -74,23 +75,24 @@ fn put_shares(out: &mut [u8], start: usize, registration: Registration, numbers:
     at
 }
 
-// Puts a U or V line for each of so many numbers of the result list from a place on.
-fn put_remaining(
+// Puts a U, V or W line, with a second column of this width, for each of so many numbers of the result list from a place on.
+fn put_points(
     out: &mut [u8],
     start: usize,
     letter: u8,
+    width: usize,
     numbers: &[u64],
     from: usize,
     count: usize,
 ) -> usize
-    requires { ⌜ (count ≤ 64) × (from + count ≤ length (now numbers)) × (start + 16 * count ≤ length (now out)) ⌝ }
-    ensures { λ r. ⌜ Put start (linesOfRemaining letter from count (now (numbers .entry))) (now (out .entry)) (now (out .exit)) r ⌝ }
+    requires { ⌜ (count ≤ 64) × (from + count ≤ length (now numbers)) × (start + (width + 6) * count ≤ length (now out)) ⌝ }
+    ensures { λ r. ⌜ Put start (linesOfPoints letter (4 ∷ width ∷ []) from count (now (numbers .entry))) (now (out .entry)) (now (out .exit)) r ⌝ }
 {
     let mut at = start;
     let mut point = 0;
     while point < count {
         let number = point as u64 + 1;
-        at = lines::put_two(out, at, letter, 4, 10, number, numbers[from + point]);
+        at = lines::put_two(out, at, letter, 4, width, number, numbers[from + point]);
         point += 1;
     }
     at
@@ -112,20 +114,32 @@ pub fn put_result(
     let producers = registration.producers;
     let layout = evaluation::layout_of(registration);
     let after_shares = put_shares(out, start, registration, numbers);
-    let after_withdrawals = put_remaining(
+    let after_withdrawals = put_points(
         out,
         after_shares,
         b'U',
+        10,
         numbers,
         layout.withdrawals,
         consumers,
     );
-    put_remaining(
+    let after_supplies = put_points(
         out,
         after_withdrawals,
         b'V',
+        10,
         numbers,
         layout.supplies,
         producers,
+    );
+    let points = producers + consumers;
+    put_points(
+        out,
+        after_supplies,
+        b'W',
+        2,
+        numbers,
+        layout.origins,
+        points,
     )
 }

@@ -14,9 +14,8 @@ use Rattle.calendar.specs.Quarters.{quarterExists}
 use Rattle.registration.proofs.Damage.{undamaged-parts}
 use Rattle.allocation.specs.Input.{Shareable}
 use Rattle.evaluation.specs.Layout.{sizeOf, ResultPut}
-use Rattle.allocation.specs.Result.{allocationOf}
 use Rattle.allocation.proofs.Laws.{undamaged-is-shareable}
-use Rattle.evaluation.specs.Evaluation.{magnitudesIn}
+use Rattle.evaluation.specs.Evaluation.{resultFrom, valuesIn}
 use Rattle.journal.specs.Readings.{shown, stampOf}
 use Rattle.journal.specs.Damage.{Right}
 use Rattle.journal.specs.Entries.{Entry, keep}
@@ -167,9 +166,9 @@ module _ (s : Service) (j : List ℕ) (day quarter T : ℕ) (lent : List ℕ) wh
         (undamaged-is-shareable _ (k .registered), m .exists, fits-of _ _ _ k, right-of _ _ (few-points _ _ k) k, m .long)
 
     pub evaluates-accepted : (verdict : Verdict) (rounds : ℕ) (lent′ : List ℕ) → verdict ≡ Accepted
-        → ResultPut (allocationOf (s .registration) (magnitudesIn (s .registration) (entries (s .state .numbers .entries) j) day quarter T)) lent lent′ rounds
+        → ResultPut (resultFrom (s .registration) (valuesIn (s .registration) (entries (s .state .numbers .entries) j) day quarter T)) lent lent′ rounds
         → Evaluates s j day quarter T lent (record { verdict = verdict; rounds = rounds }) lent′
     unfolding callOn step evaluated
     evaluates-accepted verdict rounds lent′ q m =
         let own = evaluation-own (groupOf s j) day quarter T (undamaged-parts _ (evaluation-sound .registered) .differ) in
-        record { answers = rw (v, q, own, m .rounds); result = rw (v, own) (m .result) }
+        record { answers = rw (v, q, own, m .rounds); result = rw (v, own) (m .list) }

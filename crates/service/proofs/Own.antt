@@ -4,20 +4,19 @@ use mathlib.Core.Path.{_≡_, ap}
 use mathlib.Core.Bool.{true}
 use Rattle.registration.specs.Rules.{points, codeAt, statusAt, codesDiffer}
 use Rattle.journal.specs.Entries.{placeOf, readingsAt}
-use Rattle.allocation.specs.Result.{allocationOf}
-use Rattle.allocation.proofs.Laws.{allocation-same}
-use Rattle.evaluation.specs.Substitutes.{magnitudeOf}
-use Rattle.evaluation.specs.Evaluation.{evaluationOf, magnitudesIn}
+use Rattle.lookup.specs.Substitutes.{lookedUp}
+use Rattle.evaluation.specs.Evaluation.{resultFrom, evaluationOf, valuesIn}
+use Rattle.evaluation.proofs.Evaluated.{result-same}
 use Rattle.group.specs.Group.{Group, readingsOf}
 use Rattle.points.proofs.Index.{index-own}
 
 -- an evaluation by codes is that by the points' own places
 pub evaluation-own : (G : Group) (day quarter T : ℕ) → codesDiffer (G .registration) ≡ true
-    → evaluationOf (G .registration) (readingsOf G) day quarter T ≡ allocationOf (G .registration) (magnitudesIn (G .registration) (G .entries) day quarter T)
+    → evaluationOf (G .registration) (readingsOf G) day quarter T ≡ resultFrom (G .registration) (valuesIn (G .registration) (G .entries) day quarter T)
 unfolding evaluationOf
 evaluation-own G day quarter T d =
     let r = G .registration in
-    allocation-same r
-    (λ point. magnitudeOf (statusAt r point) (readingsOf G (codeAt r point)) day quarter T)
-    (magnitudesIn r (G .entries) day quarter T)
-    (λ point h. ap (λ (p : ℕ). magnitudeOf (statusAt r point) (λ d q. readingsAt (G .entries) (placeOf p d q)) day quarter T) (index-own (codeAt r) (points r) point d h))
+    result-same r
+    (λ point. lookedUp (statusAt r point) (readingsOf G (codeAt r point)) day quarter T)
+    (valuesIn r (G .entries) day quarter T)
+    (λ point h. ap (λ (p : ℕ). lookedUp (statusAt r point) (λ d q. readingsAt (G .entries) (placeOf p d q)) day quarter T) (index-own (codeAt r) (points r) point d h))

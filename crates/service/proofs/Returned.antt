@@ -16,7 +16,8 @@ use Rattle.journal.specs.Laws.{ShowsNewest}
 use Rattle.journal.proofs.Laws.{shown-is-newest}
 use Rattle.allocation.proofs.Laws.{undamaged-is-shareable}
 use Rattle.evaluation.proofs.ResultBounds.{ResultWithin}
-use Rattle.evaluation.proofs.Greatest.{readings-small, evaluation-within, rounds-few}
+use Rattle.lookup.proofs.Greatest.{readings-small}
+use Rattle.evaluation.proofs.Greatest.{evaluation-within, rounds-few}
 use Rattle.service.specs.declared.Service.{Service}
 use Rattle.group.specs.Group.{Group, rollOf, placeFor, readingsOf, readingsFor}
 use Rattle.service.specs.Call.{Submission, Clear, Evaluation, After}
@@ -103,7 +104,7 @@ module _ (s : Service) (j : List ℕ) where
         (number-when-accepted last G lent (evaluated last G day quarter T lent) (λ n. n ≤ 5) (evaluationVerdict last G day quarter T lent) (omega arith)
         (λ e. rounds-few (s .registration) (readingsOf G) day quarter T))
 
-    -- and an accepted one gives no number above the greatest magnitude
+    -- and an accepted one gives no number above what bounds its part
     pub result-returned : callOn s j (Evaluation day quarter T lent) .seen .verdict ≡ Accepted
         → ResultWithin (s .registration) (callOn s j (Evaluation day quarter T lent) .seen .result)
     unfolding step

@@ -69,7 +69,7 @@ unfoldable pub evaluated : (last : ℕ) → Group → (day quarter T : ℕ) → 
 evaluated last G day quarter T lent =
     let result = evaluationOf (G .registration) (readingsOf G) day quarter T in
     record {
-      seen = record { verdict = Accepted; number = result .rounds; result = placed 0 (resultOf result) lent };
+      seen = record { verdict = Accepted; number = result .allocation .rounds; result = placed 0 (resultOf result) lent };
       last = last;
       group = G;
     }

@@ -23,7 +23,7 @@ static const struct submission submissions[] = {
     {990, 859182400220162095, -900},
 };
 
-/* The lines of a result: each consumer's shares, what remains of each withdrawal, what remains of each supply. */
+/* The lines of a result: each consumer's shares, what remains of each withdrawal, what remains of each supply, the origin of each point's value. */
 static void print_result(const struct share_registration *group, const uint64_t *result) {
     size_t at = 0;
     for (size_t consumer = 0; consumer < group->consumers; consumer++)
@@ -33,6 +33,8 @@ static void print_result(const struct share_registration *group, const uint64_t 
         printf("U%4zu%10" PRIu64 "\n", consumer + 1, result[at++]);
     for (size_t producer = 0; producer < group->producers; producer++)
         printf("V%4zu%10" PRIu64 "\n", producer + 1, result[at++]);
+    for (size_t point = 0; point < group->producers + group->consumers; point++)
+        printf("W%4zu%2" PRIu64 "\n", point + 1, result[at++]);
 }
 
 int main(void) {

@@ -39,11 +39,12 @@ impl Kept {
     }
 }
 
-/// A record and a journal on both sides.
+/// A record and a journal on both sides, and the result list as the newest call on them left it.
 pub struct Both {
     service: share_library::Service,
     journal: Vec<u64>,
     second: Kept,
+    result: Vec<u64>,
 }
 
 /// Gives the answer where both sides are the same, and else says what differs.
@@ -128,6 +129,7 @@ impl Both {
             service,
             journal: start.journal.clone(),
             second: start.clone(),
+            result: Vec::new(),
         }
     }
 
@@ -152,12 +154,19 @@ impl Both {
             registration,
         )?;
         same("the journal", wanted.0, &self.journal, &self.second.journal)?;
-        same("the result list", wanted.0, results, expected)
+        same("the result list", wanted.0, &results, &expected)?;
+        self.result = expected;
+        Ok(wanted.0)
     }
 
     /// The record and the journal of the second implementation, as the calls so far left them.
     pub fn second(&self) -> &Kept {
         &self.second
+    }
+
+    /// The result list of the newest call on the record, which is the same on both sides.
+    pub fn result(&self) -> &[u64] {
+        &self.result
     }
 
     /// Makes a call on both sides: its answer, or what differs.

@@ -98,7 +98,7 @@ fn value(random: &mut Random, producer: bool) -> i64 {
     let magnitude = match random.below(12) {
         0 => 99_999_999,
         1 => random.between(0, 99_999_999) as i64,
-        _ => random.pick(&[0, 1, 2, 3, 100, 101, 1001, 25_000]),
+        _ => random.pick(&[0, 0, 1, 2, 3, 100, 101, 1001, 25_000]),
     };
     let suits = if producer { magnitude } else { -magnitude };
     match random.below(40) {
@@ -170,7 +170,7 @@ fn lone(random: &mut Random, kept: &Kept, slots: &Slots) -> Option<Event> {
     if !none || !both_have {
         return None;
     }
-    let magnitude = random.pick(&[1, 3, 101, 25_000]);
+    let magnitude = random.pick(&[0, 1, 3, 101, 25_000]);
     Some(Event::Submission {
         clock: clock(random, kept.service.state.last),
         code: codes[point],
@@ -180,24 +180,50 @@ fn lone(random: &mut Random, kept: &Kept, slots: &Slots) -> Option<Event> {
     })
 }
 
-/// A reading of a point, by its number, at a quarter and one to four weeks before the first of the slots' days, or on
-/// day 0 where there is no such day; rarely on the first of the days itself, or at any of the slots.
-pub fn of_an_earlier_week(
-    random: &mut Random,
-    service: &Service,
-    slots: &Slots,
-    (point, quarter): (usize, u64),
-) -> Event {
-    if random.one_in(20) {
-        return submission(random, service, slots);
+/// A reading of 0 on the first of the slots' days, the one that is evaluated most.
+fn zero_on_the_day(random: &mut Random, service: &Service, slots: &Slots) -> Event {
+    Event::Submission {
+        clock: clock(random, service.state.last),
+        code: code(random, service),
+        day: slots.days[0],
+        quarter: quarter(random, slots),
+        value: 0,
     }
-    let weeks = if random.one_in(20) { 0 } else { random.between(1, 4) };
-    let magnitude = random.below(100_000) as i64;
+}
+
+/// The first few points of a group and a quarter of the slots, of which readings in the weeks before the first of the
+/// slots' days are to meet; their magnitudes are below a limit.
+pub struct Focus {
+    points: usize,
+    quarter: u64,
+    limit: u64,
+}
+
+/// A focus on one to three points, which get their statuses anew, mostly 0. Their magnitudes are 0 alone, 0 and 1, or
+/// any.
+pub fn focus(random: &mut Random, registration: &mut Registration, slots: &Slots) -> Focus {
+    let points = registration.points().min(random.pick(&[1, 1, 2, 3]));
+    for status in &mut registration.statuses[..points] {
+        *status = if random.one_in(2) { random.below(4) as u8 } else { 0 };
+    }
+    Focus {
+        points,
+        quarter: random.pick(&slots.quarters),
+        limit: random.pick(&[1, 2, 100_000]),
+    }
+}
+
+/// A reading of one of a focus's points one to four weeks before the first of the slots' days, or on day 0 where there
+/// is no such day; now and then on the first of the days itself.
+fn reading_in(random: &mut Random, service: &Service, slots: &Slots, focus: &Focus) -> Event {
+    let point = random.place(focus.points);
+    let weeks = if random.one_in(10) { 0 } else { random.between(1, 4) };
+    let magnitude = random.below(focus.limit) as i64;
     Event::Submission {
         clock: clock(random, service.state.last),
         code: service.registration.codes[point],
         day: slots.days[0].saturating_sub(7 * weeks),
-        quarter,
+        quarter: focus.quarter,
         value: if point < service.registration.producers {
             magnitude
         } else {
@@ -206,12 +232,21 @@ pub fn of_an_earlier_week(
     }
 }
 
-/// An evaluation of a quarter on the first of the slots' days.
-pub fn evaluation_of(random: &mut Random, service: &Service, slots: &Slots, quarter: u64) -> Event {
-    Event::Evaluation {
-        day: slots.days[0],
-        quarter,
-        until: stamp(random, service),
+/// A call in a focus: mostly a reading, else the evaluation that the readings are for, often as of the last stamp;
+/// rarely a reading at any of the slots.
+pub fn event_in(random: &mut Random, service: &Service, slots: &Slots, focus: &Focus) -> Event {
+    match random.below(30) {
+        0..=9 => Event::Evaluation {
+            day: slots.days[0],
+            quarter: focus.quarter,
+            until: if random.one_in(2) {
+                service.state.last
+            } else {
+                stamp(random, service)
+            },
+        },
+        10 => submission(random, service, slots),
+        _ => reading_in(random, service, slots, focus),
     }
 }
 
@@ -260,12 +295,13 @@ fn evaluation_at_once(kept: &Kept, slots: &Slots) -> Option<Event> {
 /// A call on the service and its journal as they stand.
 pub fn event(random: &mut Random, kept: &Kept, slots: &Slots) -> Event {
     let service = &kept.service;
-    match random.below(26) {
+    match random.below(30) {
         0..=3 => again(random, kept).unwrap_or_else(|| submission(random, service, slots)),
         4..=6 => lone(random, kept, slots).unwrap_or_else(|| submission(random, service, slots)),
-        7..=14 => submission(random, service, slots),
-        15..=16 => clear(random, service, slots),
-        17..=19 => evaluation_at_once(kept, slots).unwrap_or_else(|| evaluation(random, service, slots)),
+        7..=9 => zero_on_the_day(random, service, slots),
+        10..=17 => submission(random, service, slots),
+        18..=19 => clear(random, service, slots),
+        20..=23 => evaluation_at_once(kept, slots).unwrap_or_else(|| evaluation(random, service, slots)),
         _ => evaluation(random, service, slots),
     }
 }

@@ -88,7 +88,7 @@ pub fn registration(random: &mut Random) -> Registration {
     made.iteration = random.below(2) as u8;
     for point in 0..points as usize {
         made.codes[point] = code(random);
-        made.statuses[point] = if random.one_in(3) { random.below(4) as u8 } else { 0 };
+        made.statuses[point] = if random.one_in(2) { random.below(4) as u8 } else { 0 };
     }
     name_producers(random, &mut made);
     for producer in 1..=producers as u8 {

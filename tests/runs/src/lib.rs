@@ -7,6 +7,7 @@ pub mod events;
 pub mod groups;
 pub mod library;
 pub mod lines;
+pub mod origins;
 pub mod program;
 pub mod random;
 pub mod sheets;

@@ -6,11 +6,13 @@ use crate::damage::{self, Break};
 use crate::events::{self, Slots};
 use crate::groups;
 use crate::lines;
+use crate::origins::{self, Origins};
 use crate::random::Random;
 use crate::sheets;
 use crate::sides::Event;
 use crate::smaller;
-use crate::weeks::Substitutes;
+use crate::weeks::Edges;
+use second::evaluation::result_size;
 use second::refusal;
 use second::registration::Registration;
 use second::service::Service;
@@ -21,8 +23,8 @@ pub const ROUNDS: u64 = 180;
 /// How many calls they are to have at least, and how many of these on damaged records and journals.
 const CALLS_LEAST: (u64, u64) = (300_000, 30_000);
 
-/// How often at least each number of weeks is to be in a substitute, the reading of each week alone to make one, the
-/// oldest entry to be in one, and a damaged registration to be written to no byte and to one.
+/// How often at least each origin and each edge is to occur, and a damaged registration to be written to no byte and to
+/// one.
 const CASES_LEAST: u64 = 2_000;
 
 /// A record, a journal and the calls that are made on them.
@@ -33,20 +35,21 @@ struct Scenario {
     damaged: bool,
 }
 
-/// What was seen: how often each answer, how many calls, how many on damaged records and journals; the substitutes; how
-/// often a damaged registration was written to no byte, and to one.
+/// What was seen: how often each answer, how many calls, how many on damaged records and journals; the origins of the
+/// values in accepted evaluations and their edges; how often a damaged registration was written to no byte, and to one.
 #[derive(Default)]
 struct Seen {
     answers: [u64; 17],
     calls: u64,
     damaged: u64,
-    substitutes: Substitutes,
+    origins: Origins,
+    edges: Edges,
     short: [u64; 2],
 }
 
 impl Seen {
-    /// Counts a call that both sides answered alike, by what it was made on.
-    fn count(&mut self, kept: &Kept, call: &Call, answer: u64, damaged: bool) {
+    /// Counts a call that both sides answered alike, by what they have now.
+    fn count(&mut self, both: &Both, call: &Call, answer: u64, damaged: bool) {
         self.answers[answer as usize] += 1;
         self.calls += 1;
         self.damaged += u64::from(damaged);
@@ -55,7 +58,12 @@ impl Seen {
             Call::On {
                 event: Event::Evaluation { day, quarter, until },
                 ..
-            } if answer == 0 => self.substitutes.count(kept, *day, *quarter, *until),
+            } if answer == 0 => {
+                let kept = both.second();
+                let origins = origins::of_result(&kept.service.registration, both.result());
+                origins::count(&mut self.origins, origins.iter().copied());
+                self.edges.count(kept, *day, *quarter, *until);
+            }
             _ => (),
         }
     }
@@ -71,16 +79,12 @@ impl Seen {
                 self.calls, self.damaged
             ));
         }
-        let Substitutes {
-            by_weeks,
-            alone,
-            with_oldest,
-        } = &self.substitutes;
-        let cases = by_weeks.iter().chain(alone).chain([with_oldest]).chain(&self.short);
-        if cases.copied().any(|seen| seen < CASES_LEAST) {
+        origins::all_seen(&self.origins)?;
+        let cases = [&self.origins[..], &self.edges.counts(), &self.short].concat();
+        if cases.iter().any(|&seen| seen < CASES_LEAST) {
             return Err(format!(
-                "too few: {:?}, {:?} writes of a damaged registration to no byte and to one",
-                self.substitutes, self.short
+                "too few: origins 0 to 6: {:?}; {}; writes of a damaged registration to no byte and to one: {:?}",
+                self.origins, self.edges, self.short
             ));
         }
         Ok(())
@@ -116,14 +120,16 @@ fn fresh(random: &mut Random) -> Kept {
     }
 }
 
-/// A result list: long enough, just long enough, a little too short, or empty; with any numbers in it.
+/// A result list: long enough, just long enough, one too short, without room for the origins, any too short, or empty;
+/// with any numbers in it.
 fn result_list(random: &mut Random, registration: &Registration) -> Vec<u64> {
-    let size = registration.points().min(64) + registration.pairs().min(320);
-    let length = match random.below(12) {
+    let size = result_size(registration);
+    let length = match random.below(16) {
         0 => 0,
-        1 => size.saturating_sub(1),
-        2 => random.place(size + 1),
-        3..=7 => size,
+        1 | 2 => size - 1,
+        3 => size - registration.points(),
+        4 => random.place(size),
+        5..=11 => size,
         _ => size + random.place(10),
     };
     vec![random.number(); length]
@@ -194,7 +200,7 @@ fn damaged(random: &mut Random, rule: Break) -> Scenario {
         let event = events::event(random, suits, &slots);
         made.push(Call::On {
             event,
-            result: vec![7; random.place(400)],
+            result: vec![7; random.place(500)],
         });
     }
     let registration = Box::new(kept.service.registration);
@@ -229,26 +235,17 @@ fn at_the_ends(random: &mut Random) -> Scenario {
     }
 }
 
-/// Readings of the four weeks before one quarter hour for up to three points, in any order and with corrections, and
+/// Readings of up to three points in the four weeks before one quarter hour, in any order and with corrections, and
 /// evaluations of that quarter hour as of any stamp.
 fn earlier_weeks(random: &mut Random) -> Scenario {
     let mut kept = fresh(random);
     kept.journal.resize(random.between(60, 120) as usize, 7);
-    let points = kept.service.registration.points().min(random.between(1, 3) as usize);
-    if !random.one_in(4) {
-        kept.service.registration.statuses[..points].fill(0);
-    }
-    let start = kept.clone();
     let slots = events::slots(random);
-    let quarter = random.pick(&slots.quarters);
+    let focus = events::focus(random, &mut kept.service.registration, &slots);
+    let start = kept.clone();
     let mut made = Vec::new();
-    for _ in 0..random.between(10, 40) {
-        let point = random.place(points);
-        let event = if random.one_in(3) {
-            events::evaluation_of(random, &kept.service, &slots, quarter)
-        } else {
-            events::of_an_earlier_week(random, &kept.service, &slots, (point, quarter))
-        };
+    for _ in 0..random.between(20, 60) {
+        let event = events::event_in(random, &kept.service, &slots, &focus);
         let result = result_list(random, &kept.service.registration);
         kept.make(event, &mut result.clone());
         made.push(Call::On { event, result });
@@ -311,7 +308,7 @@ fn run(start: &Kept, calls: &[Call], damaged: bool, seen: &mut Seen) -> Result<(
         if damaged && answer != refusal::DAMAGED {
             return Err(format!("a damaged record or journal was answered by {answer}"));
         }
-        seen.count(both.second(), call, answer, damaged);
+        seen.count(&both, call, answer, damaged);
     }
     Ok(())
 }
@@ -351,7 +348,9 @@ pub fn compare(seed: u64, rounds: u64) -> Result<String, String> {
                 &at_the_ends(random),
                 &mut seen,
             )?;
-            count(seed, "earlier weeks", &earlier_weeks(random), &mut seen)?;
+            for _ in 0..2 {
+                count(seed, "earlier weeks", &earlier_weeks(random), &mut seen)?;
+            }
             count(seed, "texts", &texts(random), &mut seen)?;
         }
         for rule in &breaks {
@@ -365,19 +364,14 @@ pub fn compare(seed: u64, rounds: u64) -> Result<String, String> {
         answers,
         calls,
         damaged,
-        substitutes,
+        origins,
+        edges,
         short,
     } = seen;
-    let Substitutes {
-        by_weeks,
-        alone,
-        with_oldest,
-    } = substitutes;
     Ok(format!(
         "{calls} calls from seed {seed} on, no difference; {damaged} of them on records and journals damaged in {} \
-         ways, {short:?} of these writes to no byte and to one; substitutes with 0, 1, 2, 3 or 4 weeks in the mean: \
-         {by_weeks:?}, {with_oldest} of them with the journal's oldest entry, by the reading of week 1, 2, 3 or 4 alone: \
-         {alone:?}; answers 0 to 16: {answers:?}",
+         ways, {short:?} of these writes to no byte and to one; origins 0 to 6: {origins:?}; {edges}; answers 0 to 16: \
+         {answers:?}",
         breaks.len()
     ))
 }

@@ -4,9 +4,11 @@ use crate::calls::Kept;
 use crate::events;
 use crate::groups;
 use crate::lines;
+use crate::origins::{self, Origins};
 use crate::random::Random;
 use crate::sheets;
 use crate::smaller;
+use second::registration::Registration;
 use second::service::Service;
 use std::io::{Read, Write};
 use std::path::{Path, PathBuf};
@@ -63,26 +65,36 @@ fn length(random: &mut Random) -> usize {
     }
 }
 
-/// The lines of an input: a registration, then events.
-fn input(random: &mut Random) -> Vec<u8> {
-    let registration = groups::registration(random);
+/// The text of a registration, mostly right.
+fn group_text(random: &mut Random, registration: &Registration) -> Vec<u8> {
     let mut text = if random.one_in(4) {
-        sheets::broken_text(random, &registration)
+        sheets::broken_text(random, registration)
     } else {
-        sheets::right_text(&registration)
+        sheets::right_text(registration)
     };
     if random.one_in(8) && !text.is_empty() {
         lines::spoil(random, &mut text);
     }
+    text
+}
+
+/// The lines of an input: a registration, then events, which now and then are in a focus.
+fn input(random: &mut Random) -> Vec<u8> {
+    let slots = events::slots(random);
+    let mut registration = groups::registration(random);
+    let focus = (random.one_in(3)).then(|| events::focus(random, &mut registration, &slots));
+    let mut text = group_text(random, &registration);
     let service = Service::fresh(&registration).expect("a registration that keeps every rule");
     let mut kept = Kept {
         service,
         journal: vec![0; JOURNAL],
     };
-    let slots = events::slots(random);
     let most = length(random);
     while text.len() < most {
-        let event = events::event(random, &kept, &slots);
+        let event = match &focus {
+            Some(focus) => events::event_in(random, &kept.service, &slots, focus),
+            None => events::event(random, &kept, &slots),
+        };
         let mut line = lines::line(random, event);
         if random.one_in(15) {
             lines::spoil(random, &mut line);
@@ -106,17 +118,37 @@ fn cut(random: &mut Random, text: &mut Vec<u8>) {
     }
 }
 
-/// Counts the answers of an output's A and R lines.
-fn tally(output: &[u8], answers: &mut [u64; 17]) {
-    for line in output
-        .split(|&byte| byte == b'\n')
-        .filter(|line| matches!(line.first(), Some(b'A' | b'R')))
-    {
-        let answer: usize = std::str::from_utf8(&line[1..5])
-            .ok()
-            .and_then(|text| text.trim().parse().ok())
-            .unwrap_or(0);
-        answers[answer] += 1;
+/// What was seen: how often each answer, and how often each origin.
+#[derive(Default)]
+struct Seen {
+    answers: [u64; 17],
+    origins: Origins,
+}
+
+/// The number in a column of a line.
+fn number(line: &[u8], column: std::ops::Range<usize>) -> usize {
+    let text = line.get(column).and_then(|bytes| std::str::from_utf8(bytes).ok());
+    text.and_then(|text| text.trim().parse().ok()).unwrap_or(0)
+}
+
+impl Seen {
+    /// Counts the answers of an output's A and R lines, and the origins of its W lines.
+    fn count(&mut self, output: &[u8]) {
+        for line in output.split(|&byte| byte == b'\n') {
+            match line.first() {
+                Some(b'A' | b'R') => self.answers[number(line, 1..5)] += 1,
+                Some(b'W') => origins::count(&mut self.origins, [number(line, 5..7) as u64]),
+                _ => (),
+            }
+        }
+    }
+
+    /// Says what was not seen in all the inputs of the tests.
+    fn enough(&self) -> Result<(), String> {
+        if let Some(missing) = ANSWERS.clone().find(|&answer| self.answers[answer] == 0) {
+            return Err(format!("no input was answered by {missing}"));
+        }
+        origins::all_seen(&self.origins)
     }
 }
 
@@ -146,20 +178,20 @@ the second implementation:
 /// Compares so many inputs, the first one that of the seed.
 pub fn compare(seed: u64, count: u64) -> Result<String, String> {
     let program = program("share");
-    let mut answers = [0; 17];
+    let mut seen = Seen::default();
     for seed in seed..seed + count {
         let input = input(&mut Random::new(seed));
         let expected = second::program::share(&input);
         if written(&program, &input) != expected {
             return Err(report(seed, &program, &input));
         }
-        tally(&expected, &mut answers);
+        seen.count(&expected);
     }
-    if let Some(missing) = ANSWERS.clone().find(|&answer| count >= INPUTS && answers[answer] == 0) {
-        return Err(format!("no input was answered by {missing}"));
+    if count >= INPUTS {
+        seen.enough()?;
     }
     Ok(format!(
-        "{count} inputs from seed {seed} on, the same bytes; answers 0 to 13: {:?}",
-        &answers[ANSWERS]
+        "{count} inputs from seed {seed} on, the same bytes; answers 0 to 13: {:?}; origins 0 to 6: {:?}",
+        &seen.answers[ANSWERS], seen.origins
     ))
 }

@@ -14,23 +14,29 @@ pub fn tell_seed() {
     }));
 }
 
+/// Mixes the bits of a number; no two numbers become one.
+fn mixed(number: u64) -> u64 {
+    let mut z = number;
+    z = (z ^ (z >> 30)).wrapping_mul(0xbf58_476d_1ce4_e5b9);
+    z = (z ^ (z >> 27)).wrapping_mul(0x94d0_49bb_1331_11eb);
+    z ^ (z >> 31)
+}
+
 /// A source of numbers, fixed by its seed.
 pub struct Random(u64);
 
 impl Random {
-    /// The source of a seed.
+    /// The source of a seed. It starts at the mixed seed: from a multiple of the step the numbers of one seed would be
+    /// those of the next, one place later.
     pub fn new(seed: u64) -> Random {
         SEED.store(seed, Ordering::Relaxed);
-        Random(seed.wrapping_mul(0x9e37_79b9_7f4a_7c15))
+        Random(mixed(seed))
     }
 
     /// The next number, any of 64 bits (the generator splitmix64).
     pub fn number(&mut self) -> u64 {
         self.0 = self.0.wrapping_add(0x9e37_79b9_7f4a_7c15);
-        let mut z = self.0;
-        z = (z ^ (z >> 30)).wrapping_mul(0xbf58_476d_1ce4_e5b9);
-        z = (z ^ (z >> 27)).wrapping_mul(0x94d0_49bb_1331_11eb);
-        z ^ (z >> 31)
+        mixed(self.0)
     }
 
     /// A number below `n`, which is not 0.
@@ -56,5 +62,21 @@ impl Random {
     /// One element of a list that is not empty.
     pub fn pick<T: Copy>(&mut self, list: &[T]) -> T {
         list[self.place(list.len())]
+    }
+}
+
+#[cfg(test)]
+mod tests {
+    use super::*;
+    use std::collections::BTreeSet;
+
+    #[test]
+    fn seeds_share_no_numbers() {
+        let mut sources: Vec<Random> = (0..100).map(Random::new).collect();
+        let all: BTreeSet<u64> = sources
+            .iter_mut()
+            .flat_map(|source| (0..1000).map(|_| source.number()).collect::<Vec<u64>>())
+            .collect();
+        assert_eq!(all.len(), 100 * 1000);
     }
 }

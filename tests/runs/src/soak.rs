@@ -3,10 +3,12 @@
 //! refused by 15.
 
 use crate::groups;
+use crate::origins::{self, Origins};
 use crate::random::Random;
 use crate::sides::{self, Event};
 use second::book::Book;
 use second::calendar;
+use second::evaluation::result_size;
 use second::refusal;
 use second::registration::Registration;
 use std::collections::VecDeque;
@@ -20,7 +22,7 @@ const ROOM: usize = 1200;
 /// How many past evaluations are asked again.
 const REMEMBERED: usize = 200;
 
-/// An evaluation that was accepted: its day, quarter and stamp, and all its numbers with the round count.
+/// An evaluation that was accepted: its day, quarter and stamp, and all its numbers, origins too, with the round count.
 type Evaluated = (u64, u64, u64, Vec<u64>);
 
 /// A service with its journal, the copy that a refused call is held to, the book, and where the world stands.
@@ -45,6 +47,7 @@ struct Seen {
     new_readings: u64,
     repeats: u64,
     evaluations: u64,
+    origins: Origins,
     asked_again: u64,
     clears: u64,
     dropped: u64,
@@ -52,11 +55,13 @@ struct Seen {
     refused: [u64; 17],
 }
 
-/// A group of 6 to 12 points that iterates.
+/// A group of 6 to 12 points that iterates, with points of status 0 and of one above.
 fn registration(random: &mut Random) -> Registration {
     loop {
         let made = groups::registration(random);
-        if (6..=12).contains(&made.points()) && made.iteration == 1 && made.consumers > 2 {
+        let statuses = &made.statuses[..made.points()];
+        let mixed = statuses.contains(&0) && statuses.iter().any(|&status| status > 0);
+        if (6..=12).contains(&made.points()) && made.iteration == 1 && made.consumers > 2 && mixed {
             return made;
         }
     }
@@ -77,7 +82,7 @@ impl Soak {
             journal_before: journal.clone(),
             journal,
             book: Book::new(&registration),
-            size: registration.points() + registration.pairs(),
+            size: result_size(&registration),
             clock: 1000,
             today: 0,
             remembered: VecDeque::new(),
@@ -200,17 +205,18 @@ impl Soak {
         Ok(())
     }
 
-    /// An accepted evaluation gives the book's numbers, and those of any accepted one before it.
+    /// An accepted evaluation gives the book's numbers, origins too, and those of any accepted one before it.
     fn evaluated(&mut self, (day, quarter, until): (u64, u64, u64), rounds: u64, result: &[u64]) -> Result<(), String> {
         let expected = self.book.result(day, quarter, until);
         let mut numbers = result.to_vec();
-        if numbers != expected.numbers() || rounds != expected.rounds {
+        if numbers != expected.numbers() || rounds != expected.outcome.rounds {
             return Err(format!(
                 "the library gives {rounds} rounds and {numbers:?}, the book {expected:?}"
             ));
         }
         numbers.push(rounds);
         self.seen.evaluations += 1;
+        origins::count(&mut self.seen.origins, expected.origins);
         let before = self
             .remembered
             .iter()
@@ -273,8 +279,9 @@ impl Soak {
         judged.map_err(|why| format!("call {}, {event:?}: {why}", self.seen.calls))
     }
 
-    /// Whether enough of everything was seen for a run of a million calls.
-    fn enough(&self) -> bool {
+    /// Says what was seen too seldom for a run of a million calls.
+    fn enough(&self) -> Result<(), String> {
+        origins::all_seen(&self.seen.origins)?;
         let Seen {
             new_readings,
             repeats,
@@ -285,11 +292,11 @@ impl Soak {
             clock_set_back,
             ..
         } = self.seen;
-        let most = [new_readings, repeats, evaluations, asked_again, dropped]
-            .into_iter()
-            .min()
-            .unwrap_or(0);
-        most >= 20_000 && clears >= 5_000 && clock_set_back >= 1_000
+        let least = new_readings.min(repeats).min(evaluations).min(asked_again).min(dropped);
+        if least < 20_000 || clears < 5_000 || clock_set_back < 1_000 {
+            return Err(format!("too little was seen: {:?}", self.seen));
+        }
+        Ok(())
     }
 }
 
@@ -299,8 +306,8 @@ pub fn run(seed: u64, count: u64) -> Result<String, String> {
     for _ in 0..count {
         soak.step().map_err(|why| format!("seed {seed}: {why}"))?;
     }
-    if count >= CALLS && !soak.enough() {
-        return Err(format!("seed {seed}: too little was seen: {:?}", soak.seen));
+    if count >= CALLS {
+        soak.enough().map_err(|why| format!("seed {seed}: {why}"))?;
     }
     let (day, last) = (soak.today, soak.service.state.last);
     Ok(format!(

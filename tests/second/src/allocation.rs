@@ -21,13 +21,6 @@ pub struct Outcome {
     pub rounds: u64,
 }
 
-impl Outcome {
-    /// Gives the numbers in the order of the result list.
-    pub fn numbers(&self) -> Vec<u64> {
-        [&self.shares[..], &self.withdrawals, &self.supplies].concat()
-    }
-}
-
 /// Gives how many rounds the allocation of a group has.
 fn rounds(registration: &Registration) -> usize {
     if registration.iteration == 1 && registration.points() <= ITERATING_POINTS {
@@ -120,7 +113,6 @@ mod tests {
                     O 859182400220009499 0 1   2  1000\n";
         let result = allocate(&read(text.as_bytes()).unwrap(), &[220, 13245, 337, 120, 3687]);
         assert_eq!(result, outcome(&[66, 271, 120, 0, 3514], &[0, 0, 173], &[154, 9340], 3));
-        assert_eq!(result.numbers(), [66, 271, 120, 0, 3514, 0, 0, 173, 154, 9340]);
     }
 
     #[test]

@@ -1,7 +1,6 @@
 //! The book: every accepted reading with its stamp, nothing ever taken out.
 
-use crate::allocation::Outcome;
-use crate::evaluation::{self, weeks_earlier, Total, WEEKS};
+use crate::evaluation::{self, weeks_earlier, Evaluation, Total, WEEKS};
 use crate::registration::Registration;
 use std::collections::HashMap;
 
@@ -64,7 +63,7 @@ impl Book {
     }
 
     /// Gives the result for a day and quarter as of a stamp.
-    pub fn result(&self, day: u64, quarter: u64, until: u64) -> Outcome {
+    pub fn result(&self, day: u64, quarter: u64, until: u64) -> Evaluation {
         let codes = &self.registration.codes;
         evaluation::evaluate(
             &self.registration,
@@ -87,9 +86,20 @@ mod tests {
         assert_eq!(book.submit(30, PRODUCER, 1, 1, 6), 11);
         assert_eq!(book.submit(0, PRODUCER, 1, 1, 5), 12);
         assert_eq!(book.last(), 12);
-        for (until, supply) in [(0, 0), (9, 0), (10, 5), (11, 6), (12, 5)] {
-            assert_eq!(book.result(1, 1, until).supplies, [supply]);
+        for (day, until, supply, origin) in [
+            (1, 0, 0, 6),
+            (1, 9, 0, 6),
+            (1, 10, 5, 0),
+            (1, 11, 6, 0),
+            (1, 12, 5, 0),
+            (8, 9, 0, 6),
+            (8, 11, 6, 1),
+            (29, 12, 5, 1),
+            (36, 12, 0, 6),
+        ] {
+            let result = book.result(day, 1, until);
+            assert_eq!(result.outcome.supplies, [supply]);
+            assert_eq!(result.origins, [origin, 6, 6]);
         }
-        assert_eq!(book.result(8, 1, 11).supplies, [6]);
     }
 }

@@ -13,8 +13,8 @@ pub const INPUT_LIMIT: usize = 32768;
 /// How many entries the program's journal has room for.
 const ENTRIES: usize = 1000;
 
-/// The longest result list of any group.
-const RESULT: usize = NAMED * POINTS + POINTS;
+/// How many numbers are enough for the result list of any group.
+const RESULT: usize = NAMED * POINTS + 2 * POINTS;
 
 /// An event line that is in its columns, its date still a number.
 enum Event {
@@ -169,7 +169,7 @@ impl Run {
     }
 }
 
-/// Appends the S, U and V lines of a result list.
+/// Appends the S, U, V and W lines of a result list.
 fn put_result(out: &mut Vec<u8>, registration: &Registration, result: &[u64]) {
     let mut numbers = result.iter().copied();
     for consumer in 0..registration.consumers {
@@ -187,6 +187,9 @@ fn put_result(out: &mut Vec<u8>, registration: &Registration, result: &[u64]) {
     }
     for (producer, supply) in (1..=registration.producers as u64).zip(&mut numbers) {
         put_line(out, b'V', &[(producer, 4), (supply, 10)]);
+    }
+    for (point, origin) in (1..=registration.points() as u64).zip(&mut numbers) {
+        put_line(out, b'W', &[(point, 4), (origin, 2)]);
     }
 }
 
@@ -224,6 +227,9 @@ S   2   1       780
 U   1         0
 U   2       120
 V   1       121
+W   1 0
+W   2 0
+W   3 0
 ";
         assert_eq!(answers("E 20240102   1         1002\n"), expected);
     }
@@ -237,8 +243,44 @@ S   2   1         0
 U   1         0
 U   2         0
 V   1       901
+W   1 0
+W   2 0
+W   3 6
 ";
         assert_eq!(answers("E 20240102   1         1001\n"), expected);
+    }
+
+    #[test]
+    fn origins_are_numbered_through_all_points() {
+        let input = "\
+G   2   2 0
+D 859182400220162071 0
+D 859182400110035201 2
+O 859182400220162088 0 2   1  4000   2  4000
+O 859182400220162095 1 1   2  6000
+M            1 859182400220162071 20240102   1      1000
+M            2 859182400220162088 20240102   1         0
+M            3 859182400110035201 20240102   1       500
+E 20240109   1            3
+";
+        let expected = "\
+A   0            1
+A   0            2
+A   0            3
+R   0 1
+S   1   1         0
+S   1   2         0
+S   2   2         0
+U   1         0
+U   2         0
+V   1      1000
+V   2         0
+W   1 1
+W   2 5
+W   3 1
+W   4 5
+";
+        assert_eq!(String::from_utf8(share(input.as_bytes())).unwrap(), expected);
     }
 
     #[test]

@@ -35,7 +35,8 @@ pub fn code(number: u64) -> u64 {
     stem * 10 + (10 - sum % 10) % 10
 }
 
-/// Gives a group in which every consumer names as many producers as it can, beginning with its own number.
+/// Gives a group with points of every status, in which every consumer names as many producers as it can, beginning with
+/// its own number.
 pub fn large_group(producers: usize, consumers: usize, iteration: u8) -> Registration {
     let mut registration = Registration::zeros();
     registration.producers = producers;
@@ -43,7 +44,7 @@ pub fn large_group(producers: usize, consumers: usize, iteration: u8) -> Registr
     registration.iteration = iteration;
     for point in 0..producers + consumers {
         registration.codes[point] = code(point as u64);
-        registration.statuses[point] = (point % 7 == 3) as u8;
+        registration.statuses[point] = [0, 0, 0, 1, 0, 2, 3][point % 7];
     }
     for consumer in 0..consumers {
         let count = producers.min(NAMED);

@@ -1,8 +1,7 @@
 //! The service: a record of the group's registration and state, and the calls that work on a lent journal.
 
-use crate::allocation::Outcome;
 use crate::calendar::{self, DAYS};
-use crate::evaluation::{self, weeks_earlier, Total, WEEKS};
+use crate::evaluation::{self, weeks_earlier, Evaluation, Total, WEEKS};
 use crate::refusal::*;
 use crate::registration::{Registration, POINTS};
 use std::collections::HashMap;
@@ -233,15 +232,15 @@ impl Service {
         if until < self.state.kept_stamp || until > self.state.last {
             return Err(STAMP_OUTSIDE);
         }
-        let needed = self.registration.pairs() + self.registration.points();
+        let needed = evaluation::result_size(&self.registration);
         let target = result.get_mut(..needed).ok_or(TOO_SHORT)?;
-        let outcome = self.outcome(self.entries(journal), day, quarter, until);
-        target.copy_from_slice(&outcome.numbers());
-        Ok(outcome.rounds)
+        let evaluation = self.evaluation(self.entries(journal), day, quarter, until);
+        target.copy_from_slice(&evaluation.numbers());
+        Ok(evaluation.outcome.rounds)
     }
 
-    /// Gives the outcome for a quarter as of a stamp from the entries of an undamaged journal.
-    fn outcome(&self, entries: &[u64], day: u64, quarter: u64, until: u64) -> Outcome {
+    /// Gives the evaluation of a quarter as of a stamp from the entries of an undamaged journal.
+    fn evaluation(&self, entries: &[u64], day: u64, quarter: u64, until: u64) -> Evaluation {
         let shown = &entries[..ENTRY * entries_until(entries, until)];
         let own = own_readings(shown, day, quarter);
         evaluation::evaluate(
@@ -327,7 +326,7 @@ mod tests {
 
     /// Gives the producer's remaining supply as of a stamp, while consumers have no readings.
     fn supply(service: &Service, journal: &[u64], day: u64, quarter: u64, until: u64) -> Result<u64, u64> {
-        let mut result = [0; 5];
+        let mut result = [0; 8];
         service
             .evaluate(journal, day, quarter, until, &mut result)
             .map(|_| result[4])
@@ -420,28 +419,147 @@ mod tests {
     /// A reading of the sample group: code, day, quarter and value.
     type Reading = (u64, u64, u64, i64);
 
-    /// Gives the magnitudes of the three points from the outcome that shares them out.
-    fn magnitudes(outcome: &[u64]) -> [u64; 3] {
-        let [first_share, second_share, first_left, second_left, supply_left] = outcome.try_into().unwrap();
+    /// The magnitude of a point's value and its origin.
+    type Value = (u64, u64);
+
+    /// The value of a point with status 0 for which no reading is shown.
+    const NONE: Value = (0, 6);
+
+    /// Gives the values of the three points from the result that shares them out.
+    fn values(result: &[u64]) -> [Value; 3] {
+        let [first_share, second_share, first_left, second_left, supply_left, origins @ ..]: [u64; 8] =
+            result.try_into().unwrap();
         [
-            first_share + second_share + supply_left,
-            first_share + first_left,
-            second_share + second_left,
+            (first_share + second_share + supply_left, origins[0]),
+            (first_share + first_left, origins[1]),
+            (second_share + second_left, origins[2]),
         ]
     }
 
-    /// Checks the magnitudes that service and book use for a quarter as of a stamp; the readings have stamps from 1 on.
-    fn check_magnitudes(readings: &[Reading], day: u64, quarter: u64, until: u64, expected: [u64; 3]) {
-        let (mut service, mut journal) = fresh(readings.len());
-        let mut book = Book::new(&group());
+    /// Checks the values that service and book use for a group's day and quarter as of a stamp; the readings have
+    /// stamps from 1 on.
+    fn check_group(registration: &Registration, readings: &[Reading], asked: (u64, u64, u64), expected: [Value; 3]) {
+        let (mut service, mut journal) = (Service::fresh(registration).unwrap(), vec![0; ENTRY * readings.len()]);
+        let mut book = Book::new(registration);
         for (&(code, day, quarter, value), stamp) in readings.iter().zip(1..) {
             assert_eq!(service.submit(&mut journal, 0, code, day, quarter, value), Ok(stamp));
             assert_eq!(book.submit(0, code, day, quarter, value), stamp);
         }
-        let mut result = [0; 5];
+        let (day, quarter, until) = asked;
+        let mut result = [9; 8];
         service.evaluate(&journal, day, quarter, until, &mut result).unwrap();
-        assert_eq!(magnitudes(&result), expected);
-        assert_eq!(magnitudes(&book.result(day, quarter, until).numbers()), expected);
+        assert_eq!(values(&result), expected);
+        assert_eq!(values(&book.result(day, quarter, until).numbers()), expected);
+    }
+
+    /// Checks the values that service and book use for the sample group.
+    fn check_values(readings: &[Reading], asked: (u64, u64, u64), expected: [Value; 3]) {
+        check_group(&group(), readings, asked, expected);
+    }
+
+    /// Gives the sample group with a status for all its points.
+    fn group_of_status(status: u8) -> Registration {
+        let mut registration = group();
+        registration.statuses[..3].fill(status);
+        registration
+    }
+
+    #[test]
+    fn a_reading_of_0_is_measured_with_each_status() {
+        let earlier = (0..4).map(|week| (PRODUCER, 7 * week, 1, 100));
+        let readings: Vec<Reading> = earlier.chain([(PRODUCER, 28, 1, 0), (CONSUMER, 28, 1, 0)]).collect();
+        for status in 0..=3 {
+            let registration = group_of_status(status);
+            let missing = if status > 0 { (0, 5) } else { NONE };
+            check_group(&registration, &readings, (28, 1, 6), [(0, 0), (0, 0), missing]);
+            check_group(&registration, &readings, (28, 1, 5), [(0, 0), missing, missing]);
+        }
+    }
+
+    #[test]
+    fn a_status_above_0_gives_zero_by_status() {
+        let mut readings: Vec<Reading> = (0..4).map(|week| (PRODUCER, 7 * week, 1, 100)).collect();
+        readings.extend([(PRODUCER, 28, 1, 70), (PRODUCER, 28, 1, 0)]);
+        let zero = (0, 5);
+        for status in 1..=3 {
+            for (until, value) in [(0, zero), (1, zero), (2, zero), (4, zero), (5, (70, 0)), (6, (0, 0))] {
+                check_group(&group_of_status(status), &readings, (28, 1, until), [value, zero, zero]);
+            }
+            check_group(&group_of_status(status), &readings, (28, 2, 6), [zero; 3]);
+            check_group(&group_of_status(status), &readings, (0, 1, 0), [zero; 3]);
+        }
+        for (until, value) in [
+            (0, NONE),
+            (1, (100, 1)),
+            (2, (100, 2)),
+            (4, (100, 4)),
+            (5, (70, 0)),
+            (6, (0, 0)),
+        ] {
+            check_values(&readings, (28, 1, until), [value, NONE, NONE]);
+        }
+    }
+
+    #[test]
+    fn each_point_has_its_own_status_and_origin() {
+        let second_consumer = group().codes[2];
+        let readings = [(CONSUMER, 21, 1, 0), (second_consumer, 28, 1, 0), (CONSUMER, 14, 1, -1)];
+        let mut registration = group();
+        registration.statuses[0] = 2;
+        check_group(&registration, &readings, (28, 1, 3), [(0, 5), (1, 2), (0, 0)]);
+        registration.statuses[..3].copy_from_slice(&[0, 1, 3]);
+        check_group(&registration, &readings, (28, 1, 3), [NONE, (0, 5), (0, 0)]);
+        check_group(&registration, &readings, (28, 1, 1), [NONE, (0, 5), (0, 5)]);
+    }
+
+    #[test]
+    fn a_mean_of_zeros_has_its_weeks_as_origin() {
+        let weeks = [0, 7, 14, 21].map(|day| (CONSUMER, day, 96, 0));
+        for count in 1..=4 {
+            check_values(&weeks, (28, 96, count), [NONE, (0, count), NONE]);
+            check_values(&weeks[4 - count as usize..], (28, 96, count), [NONE, (0, count), NONE]);
+        }
+        check_values(&weeks, (28, 96, 0), [NONE; 3]);
+        check_values(&weeks, (29, 96, 4), [NONE; 3]);
+        check_values(&weeks, (28, 95, 4), [NONE; 3]);
+    }
+
+    #[test]
+    fn readings_later_than_the_stamp_have_no_part_in_origins() {
+        let readings = [
+            (PRODUCER, 93, 7, 10),
+            (PRODUCER, 93, 7, 0),
+            (PRODUCER, 86, 7, 0),
+            (PRODUCER, 107, 7, 0),
+            (PRODUCER, 79, 7, 4),
+            (PRODUCER, 107, 7, 8),
+        ];
+        for (until, value) in [
+            (0, NONE),
+            (1, (10, 1)),
+            (2, (0, 1)),
+            (3, (0, 2)),
+            (4, (0, 0)),
+            (5, (0, 0)),
+            (6, (8, 0)),
+        ] {
+            check_values(&readings, (107, 7, until), [value, NONE, NONE]);
+        }
+    }
+
+    #[test]
+    fn weeks_before_the_first_day_give_no_value() {
+        let readings: Vec<Reading> = (0..28).map(|day| (CONSUMER, day, 1, -40)).collect();
+        for (day, weeks) in [(28, 4), (34, 4), (41, 3), (48, 2), (55, 1)] {
+            check_values(&readings, (day, 1, 28), [NONE, (40, weeks), NONE]);
+        }
+        for day in 0..28 {
+            let value = if day < 7 { NONE } else { (40, day / 7) };
+            check_values(&readings, (day, 1, day), [NONE, value, NONE]);
+            check_values(&readings, (day, 1, day + 1), [NONE, (40, 0), NONE]);
+        }
+        let late = [27731, 27738, 27745, 27752].map(|day| (PRODUCER, day, 1, 40));
+        check_values(&late, (0, 1, 4), [NONE; 3]);
     }
 
     #[test]
@@ -452,14 +570,14 @@ mod tests {
             (PRODUCER, 21, 1, 40),
             (PRODUCER, 3, 9, 7),
         ];
-        for (until, mean) in [(1, 8), (2, 8), (3, 24), (4, 24)] {
-            check_magnitudes(&readings, 28, 1, until, [mean, 0, 0]);
+        for (until, mean, weeks) in [(1, 8, 1), (2, 8, 1), (3, 24, 2), (4, 24, 2)] {
+            check_values(&readings, (28, 1, until), [(mean, weeks), NONE, NONE]);
         }
         for day in [7, 14, 21, 28] {
-            check_magnitudes(&readings[..2], day, 1, 2, [8, 0, 0]);
+            check_values(&readings[..2], (day, 1, 2), [(8, 1), NONE, NONE]);
         }
-        check_magnitudes(&readings, 10, 9, 4, [7, 5, 0]);
-        check_magnitudes(&readings[1..], 31, 9, 1, [0, 5, 0]);
+        check_values(&readings, (10, 9, 4), [(7, 1), (5, 1), NONE]);
+        check_values(&readings[1..], (31, 9, 1), [NONE, (5, 1), NONE]);
     }
 
     #[test]
@@ -471,8 +589,15 @@ mod tests {
             (PRODUCER, 7, 1, 90),
             (PRODUCER, 14, 1, 0),
         ];
-        for (until, mean) in [(0, 0), (1, 10), (2, 30), (3, 40), (4, 70), (5, 45)] {
-            check_magnitudes(&readings, 28, 1, until, [mean, 0, 0]);
+        for (until, value) in [
+            (0, NONE),
+            (1, (10, 1)),
+            (2, (30, 1)),
+            (3, (40, 2)),
+            (4, (70, 2)),
+            (5, (45, 2)),
+        ] {
+            check_values(&readings, (28, 1, until), [value, NONE, NONE]);
         }
     }
 
@@ -485,11 +610,13 @@ mod tests {
                 .filter(|&place| has_reading(place))
                 .map(|place| (PRODUCER, weeks[place].0, 7, weeks[place].1))
                 .collect();
-            let sum: i64 = readings.iter().map(|reading| reading.3).sum();
-            let count = readings.len() as i64;
-            let mean = if count == 0 { 0 } else { (2 * sum + count) / (2 * count) };
+            let (sum, count): (i64, u64) = (readings.iter().map(|reading| reading.3).sum(), readings.len() as u64);
+            let value = match count {
+                0 => NONE,
+                _ => ((2 * sum as u64 + count) / (2 * count), count),
+            };
             for _ in 0..2 {
-                check_magnitudes(&readings, 107, 7, count as u64, [mean as u64, 0, 0]);
+                check_values(&readings, (107, 7, count), [value, NONE, NONE]);
                 readings.reverse();
             }
         }
@@ -500,11 +627,11 @@ mod tests {
         let mut readings = vec![(PRODUCER, 100, 7, 1000)];
         readings.extend((0..20).map(|value| (PRODUCER, 93, 7, value)));
         readings.extend([(PRODUCER, 86, 7, 3), (PRODUCER, 79, 7, 2)]);
-        check_magnitudes(&readings, 107, 7, 23, [256, 0, 0]);
+        check_values(&readings, (107, 7, 23), [(256, 4), NONE, NONE]);
         readings.insert(0, (PRODUCER, 100, 7, 500));
-        check_magnitudes(&readings, 107, 7, 24, [256, 0, 0]);
+        check_values(&readings, (107, 7, 24), [(256, 4), NONE, NONE]);
         readings.rotate_left(2);
-        check_magnitudes(&readings, 107, 7, 24, [256, 0, 0]);
+        check_values(&readings, (107, 7, 24), [(256, 4), NONE, NONE]);
     }
 
     #[test]
@@ -524,10 +651,10 @@ mod tests {
             (second_consumer, 86, 7, -60),
             (second_consumer, 100, 7, -61),
         ];
-        check_magnitudes(&readings, 107, 7, 12, [40, 500, 61]);
-        check_magnitudes(&readings, 107, 7, 11, [40, 500, 60]);
-        check_magnitudes(&readings, 107, 7, 1, [40, 0, 0]);
-        check_magnitudes(&readings[1..], 107, 7, 11, [0, 500, 61]);
+        check_values(&readings, (107, 7, 12), [(40, 1), (500, 1), (61, 2)]);
+        check_values(&readings, (107, 7, 11), [(40, 1), (500, 1), (60, 1)]);
+        check_values(&readings, (107, 7, 1), [(40, 1), NONE, NONE]);
+        check_values(&readings[1..], (107, 7, 11), [NONE, (500, 1), (61, 2)]);
     }
 
     /// Gives the magnitude of the entry for a place with the greatest stamp up to the given one.
@@ -537,10 +664,10 @@ mod tests {
         of_place.max_by_key(|entry| entry[0]).map(|entry| entry[2])
     }
 
-    /// Gives the magnitude that counts for a point, by looking it up and, failing that, each week in turn.
-    fn expected_magnitude(entries: &[u64], status: u8, own_place: u64, until: u64) -> u64 {
+    /// Gives the value that counts for a point, by looking it up and, failing that, each week in turn.
+    fn expected_value(entries: &[u64], status: u8, own_place: u64, until: u64) -> Value {
         if let Some(own) = looked_up(entries, own_place, until) {
-            return own;
+            return (own, 0);
         }
         let day = own_place / 100 % 27759;
         let found: Vec<u64> = [7, 14, 21, 28]
@@ -548,40 +675,48 @@ mod tests {
             .filter(|&&before| before <= day)
             .filter_map(|before| looked_up(entries, own_place - 100 * before, until))
             .collect();
-        if status > 0 || found.is_empty() {
-            return 0;
+        match (status, found.len() as u64) {
+            (0, 0) => (0, 6),
+            (0, count) => {
+                let sum: u64 = found.iter().sum();
+                (sum / count + u64::from(sum % count * 2 >= count), count)
+            }
+            _ => (0, 5),
         }
-        let (sum, count) = (found.iter().sum::<u64>(), found.len() as u64);
-        sum / count + u64::from(sum % count * 2 >= count)
     }
 
     #[test]
     fn evaluations_equal_a_look_up_for_each_point_and_week() {
         let mut dice = Dice(2463534242);
+        let mut seen = [0; 7];
         for (producers, consumers) in [(1, 1), (1, 2), (3, 9), (5, 59), (63, 1)] {
             let registration = large_group(producers, consumers, 1);
             let points = registration.points() as u64;
             let (mut service, mut journal) = (Service::fresh(&registration).unwrap(), vec![0; ENTRY * 2000]);
             for _ in 0..2000 {
                 let (point, day) = (dice.below(points), dice.below(6) * 7 + dice.below(20) / 19);
-                let value = dice.below(1000) as i64 * if point < producers as u64 { 1 } else { -1 };
+                let magnitude = dice.below(2) as i64 * dice.below(1000) as i64;
+                let value = magnitude * if point < producers as u64 { 1 } else { -1 };
                 let _ = service.submit(&mut journal, 0, code(point), day, 1 + dice.below(3), value);
             }
             let entries = service.entries(&journal);
             for _ in 0..300 {
                 let (day, quarter) = (dice.below(10) * 7, 1 + dice.below(3));
                 let until = dice.below(service.state.last + 1);
-                let magnitudes: Vec<u64> = (0..points)
+                let (magnitudes, origins): (Vec<u64>, Vec<u64>) = (0..points)
                     .map(|point| (point * 27759 + day) * 100 + quarter - 1)
                     .zip(registration.statuses)
-                    .map(|(place, status)| expected_magnitude(entries, status, place, until))
-                    .collect();
-                let expected = allocate(&registration, &magnitudes).numbers();
+                    .map(|(place, status)| expected_value(entries, status, place, until))
+                    .unzip();
+                origins.iter().for_each(|&origin| seen[origin as usize] += 1);
+                let outcome = allocate(&registration, &magnitudes);
+                let expected = Evaluation { outcome, origins }.numbers();
                 let mut result = vec![0; expected.len()];
                 service.evaluate(&journal, day, quarter, until, &mut result).unwrap();
                 assert_eq!(result, expected);
             }
         }
+        assert!(seen.iter().all(|&times| times > 100), "{seen:?}");
     }
 
     #[test]
@@ -644,12 +779,19 @@ mod tests {
     fn short_lists_are_refused_last() {
         let (mut service, _) = fresh(0);
         assert_eq!(service.submit(&mut [0; 2], 1, PRODUCER, 1, 1, 1), Err(JOURNAL_FULL));
-        let mut result = [9; 6];
-        assert_eq!(service.evaluate(&[], 1, 1, 0, &mut result[..4]), Err(TOO_SHORT));
-        assert_eq!(service.evaluate(&[], 1, 1, 1, &mut result[..4]), Err(STAMP_OUTSIDE));
-        assert_eq!(result, [9; 6]);
-        assert_eq!(service.evaluate(&[], 1, 1, 0, &mut result), Ok(2));
-        assert_eq!(result, [0, 0, 0, 0, 0, 9]);
+        let mut result = [9; 9];
+        for length in 0..8 {
+            assert_eq!(service.evaluate(&[], 1, 1, 0, &mut result[..length]), Err(TOO_SHORT));
+            assert_eq!(
+                service.evaluate(&[], 1, 1, 1, &mut result[..length]),
+                Err(STAMP_OUTSIDE)
+            );
+        }
+        assert_eq!(result, [9; 9]);
+        for length in [8, 9] {
+            assert_eq!(service.evaluate(&[], 1, 1, 0, &mut result[..length]), Ok(2));
+            assert_eq!(result, [0, 0, 0, 0, 0, 6, 6, 6, 9]);
+        }
     }
 
     #[test]
@@ -730,7 +872,7 @@ mod tests {
                 let answer = service.evaluate(journal, day, quarter, stamp, &mut result);
                 if let Ok(rounds) = answer {
                     let expected = book.result(day, quarter, stamp);
-                    assert_eq!(rounds, expected.rounds);
+                    assert_eq!(rounds, expected.outcome.rounds);
                     assert_eq!(result[..expected.numbers().len()], expected.numbers());
                 }
                 true
@@ -775,7 +917,7 @@ mod tests {
                 any_number(&mut dice, 5),
                 any_number(&mut dice, 12),
             );
-            let mut result = [0; 5];
+            let mut result = [0; 8];
             let _ = service.evaluate(&journal, day, quarter, stamp, &mut result);
             let _ = service.submit(&mut journal, stamp, PRODUCER, day, quarter, odd as i64);
             let _ = service.clear(&mut journal, day, stamp);

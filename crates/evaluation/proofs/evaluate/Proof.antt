@@ -8,18 +8,19 @@ use Rattle.evaluation.proofs.evaluate.Tie as tie
 add-points : tie.Need-add-points
 add-points c = search needs
 
-magnitudes-requires : tie.Need-magnitudes-requires
-magnitudes-requires c κs =
+values-requires : tie.Need-values-requires
+values-requires c κs =
     let start = c .before .before .before .before in
     (record { exists = start .pre .1; holds = start .pre .2; right = start .pre .3 }, few-points (start .pre .0))
 
 allocate-requires : tie.Need-allocate-requires
 allocate-requires c κs =
-    let start = c .before .before .before .before .before in
-    (start .pre .0, all-within (start .args .registration) (c .magnitudes .ensures) (start .pre .3))
+    let looked-up = c .before in
+    let start = looked-up .before .before .before .before .before in
+    (start .pre .0, all-within (start .args .registration) (looked-up .values .result) (looked-up .values .ensures) (start .pre .3))
 
-put-allocation-requires : tie.Need-put-allocation-requires
-put-allocation-requires c κs = search needs
+put-parts-requires : tie.Need-put-parts-requires
+put-parts-requires c κs = search needs
 
 same-length : tie.Need-same-length
 same-length c = search needs
@@ -28,17 +29,17 @@ returns : tie.Need-returns
 returns c =
     let put = c .before .before in
     let allocated = put .before .before in
-    let looked-up = allocated .before in
+    let looked-up = allocated .before .before in
     let start = looked-up .before .before .before .before .before in
-    evaluated (start .args .registration) (looked-up .magnitudes .ensures) (allocated .allocate .result) (allocated .allocate .ensures) (put .put-allocation .ensures)
+    evaluated (start .args .registration) (looked-up .values .result) (looked-up .values .ensures) (allocated .allocate .result) (allocated .allocate .ensures) (put .put-parts .ensures)
 
 pub evaluate-spec : {M : Type 1} → statement M
 evaluate-spec =
     tie.close
     (tie.spec
     add-points
-    magnitudes-requires
+    values-requires
     allocate-requires
-    put-allocation-requires
+    put-parts-requires
     same-length
     returns)

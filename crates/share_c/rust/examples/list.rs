@@ -1,6 +1,6 @@
 //! Case LIST through the static library: a group is read, three measurements are submitted, and their quarter hour is evaluated.
 
-use share_library::{Measurement, Refusal, Registration, Service, RESULT_MOST};
+use share_library::{Evaluation, Measurement, Refusal, Registration, Service, RESULT_MOST};
 
 const TEXT: &str = "\
 G   1   2 1
@@ -32,30 +32,25 @@ fn main() -> Result<(), Refusal> {
         println!("A{:4}{stamp:13}", 0);
     }
     let mut result = [0; RESULT_MOST];
-    let rounds = service.evaluate(&journal, day, 1, 1002, &mut result)?;
-    println!("R{:4}{rounds:2}", 0);
-    print_result(&registration, &result);
+    let evaluation = service.evaluate(&journal, day, 1, 1002, &mut result)?;
+    println!("R{:4}{:2}", 0, evaluation.rounds());
+    print_result(&evaluation);
     Ok(())
 }
 
-/// The lines of a result: each consumer's shares, what remains of each withdrawal, what remains of each supply.
-fn print_result(registration: &Registration, result: &[u64]) {
-    let mut numbers = result.iter();
-    let mut next = || numbers.next().copied().unwrap_or(0);
-    for consumer in 0..registration.consumers {
-        for priority in 0..registration.counts[consumer] as usize {
-            println!(
-                "S{:4}{:4}{:10}",
-                consumer + 1,
-                registration.sources[5 * consumer + priority],
-                next()
-            );
-        }
+/// The lines of a result: each consumer's shares, what remains of each withdrawal, what remains of each supply, the origin of
+/// each point's value.
+fn print_result(evaluation: &Evaluation) {
+    for share in evaluation.shares() {
+        println!("S{:4}{:4}{:10}", share.consumer + 1, share.producer + 1, share.share);
     }
-    for consumer in 0..registration.consumers {
-        println!("U{:4}{:10}", consumer + 1, next());
+    for (consumer, remaining) in evaluation.remaining_withdrawals().iter().enumerate() {
+        println!("U{:4}{remaining:10}", consumer + 1);
     }
-    for producer in 0..registration.producers {
-        println!("V{:4}{:10}", producer + 1, next());
+    for (producer, remaining) in evaluation.remaining_supplies().iter().enumerate() {
+        println!("V{:4}{remaining:10}", producer + 1);
+    }
+    for (point, origin) in evaluation.origins().enumerate() {
+        println!("W{:4}{:2}", point + 1, origin.number());
     }
 }

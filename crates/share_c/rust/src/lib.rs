@@ -1,21 +1,28 @@
 //! The proved server for Rust: safe calls over the static library of crate share_c.
 //!
 //! [`calls`] has the library's calls as they are, each with an answer of numbers; the methods of [`Registration`] and
-//! [`Service`] give a `Result` instead.
+//! [`Service`] give a `Result` instead, and an evaluation's by name: [`Evaluation`].
 
 pub mod calls;
+mod evaluation;
+mod origin;
 mod refusal;
 
+pub use evaluation::{Evaluation, PointResult, Share};
+pub use origin::Origin;
 pub use refusal::Refusal;
 
 /// A buffer of so many bytes holds the text of every registration.
 pub const TEXT_MOST: usize = 4552;
 
 /// A list of so many numbers holds every result.
-pub const RESULT_MOST: usize = 359;
+pub const RESULT_MOST: usize = 423;
 
 /// The table of changeover days has so many entries, two for each year from 2024 to 2099.
 pub const CHANGEOVER_COUNT: u64 = 152;
+
+/// A consumer names at most so many producers.
+const NAMED_MOST: usize = 5;
 
 /// A group: its points, producers first, and who names whom with which key. What is not used is 0.
 ///
@@ -82,6 +89,26 @@ impl Registration {
         let written = calls::write(self, out);
         Refusal::unless(written.answer, written.bytes)
     }
+
+    /// The code of a producer; producers count from 0.
+    pub fn producer_code(&self, producer: usize) -> Option<u64> {
+        self.codes.iter().take(self.producers).nth(producer).copied()
+    }
+
+    /// The code of a consumer; consumers count from 0.
+    pub fn consumer_code(&self, consumer: usize) -> Option<u64> {
+        let codes = self.codes.iter().skip(self.producers).take(self.consumers);
+        codes.copied().nth(consumer)
+    }
+
+    /// Each consumer with each producer that it names, both counted from 0: consumers in order, priorities within.
+    pub(crate) fn pairs(&self) -> impl Iterator<Item = (usize, usize)> + '_ {
+        let named = self.sources.chunks(NAMED_MOST).zip(self.counts).take(self.consumers);
+        named.enumerate().flat_map(|(consumer, (sources, count))| {
+            let producers = sources.iter().take(count.into());
+            producers.map(move |&source| (consumer, usize::from(source).saturating_sub(1)))
+        })
+    }
 }
 
 impl Service {
@@ -105,19 +132,21 @@ impl Service {
         Refusal::unless(cleared.answer, cleared.dropped)
     }
 
-    /// Evaluates a quarter hour as of a stamp, and tells the round count. The result list gets the pairs' shares, then
-    /// what remains of each withdrawal, then of each supply; later numbers stay. Two accepted evaluations of one quarter
-    /// hour as of one stamp give the same, whatever was submitted or cleared between them.
-    pub fn evaluate(
-        &self,
+    /// Evaluates a quarter hour as of a stamp. The result list gets the pairs' shares, then what remains of each withdrawal,
+    /// then of each supply, then the origin of each point's value; later numbers stay. It needs a number for each pair and
+    /// two for each point; [`RESULT_MOST`] are always enough. Two accepted evaluations of one quarter hour as of one stamp
+    /// give the same, whatever was submitted or cleared between them.
+    pub fn evaluate<'a>(
+        &'a self,
         journal: &[u64],
         day: u64,
         quarter: u64,
         until: u64,
-        result: &mut [u64],
-    ) -> Result<usize, Refusal> {
+        result: &'a mut [u64],
+    ) -> Result<Evaluation<'a>, Refusal> {
         let evaluated = calls::evaluate(self, journal, day, quarter, until, result);
-        Refusal::unless(evaluated.answer, evaluated.rounds)
+        let rounds = Refusal::unless(evaluated.answer, evaluated.rounds)?;
+        Ok(Evaluation::of(&self.registration, rounds, result))
     }
 }
 

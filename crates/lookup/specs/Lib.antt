@@ -1,0 +1,5 @@
+pub mod Mean
+pub mod Earlier
+pub mod Substitutes
+pub mod Working
+pub mod Laws
