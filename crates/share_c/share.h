@@ -52,18 +52,19 @@ enum {
 
 /*
  * Origins. The last numbers of a result say of each point where its value in the quarter hour came from, by one of these. Readings up to
- * the evaluation's stamp count, and one of 0 is a reading; the earlier weeks are the four before the day, 7, 14, 21 and 28 days back.
+ * the evaluation's stamp count, and one of 0 is a reading; an earlier week's reading is that of the quarter hour of the same number 7, 14,
+ * 21 or 28 days before.
  */
 enum {
-    /* The value was measured: the quarter hour has a reading, whatever the point's status. */
+    /* The quarter hour has a reading, which is the value, whatever the point's status. */
     SHARE_MEASURED = 0,
-    /* The quarter hour has no reading; the value is the mean of one earlier week. */
+    /* The quarter hour has no reading; the value is the reading of one earlier week. */
     SHARE_MEAN_OF_ONE_WEEK = 1,
-    /* The quarter hour has no reading; the value is the mean of two earlier weeks. */
+    /* The quarter hour has no reading; the value is the mean of the readings of two earlier weeks. */
     SHARE_MEAN_OF_TWO_WEEKS = 2,
-    /* The quarter hour has no reading; the value is the mean of three earlier weeks. */
+    /* The quarter hour has no reading; the value is the mean of the readings of three earlier weeks. */
     SHARE_MEAN_OF_THREE_WEEKS = 3,
-    /* The quarter hour has no reading; the value is the mean of four earlier weeks. */
+    /* The quarter hour has no reading; the value is the mean of the readings of four earlier weeks. */
     SHARE_MEAN_OF_FOUR_WEEKS = 4,
     /* The quarter hour has no reading, and the point's status is above 0; the value is zero, whatever the earlier weeks have. */
     SHARE_ZERO_BY_STATUS = 5,

@@ -601,11 +601,11 @@ meanRows =
 
 -- ---- origins
 
--- points with readings on none, one, two, three and four of 20240101, 20240108, 20240115 and 20240122, evaluated a week later; the one with a status above
--- 0 counts zero, but by its reading where it has one
+-- on 20240129 the producer has a reading of 0 and the consumers have none, but on none, one, two, three and four of the days one to four weeks before; the
+-- one reading of the first of them is 0; the one with a status above 0 counts zero by it, and as measured once it has a reading of 0
 abbrev pub originRows : List Row
 originRows =
-    row "an origin of each number, and none after a refused R line"
+    row "each origin once, and no W line after a refused R line"
     ("G   1   6 0" ∷
     "D 859182400220162071 0" ∷
     "O 859182400220162088 0 1   1  1000" ∷

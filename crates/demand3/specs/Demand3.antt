@@ -47,7 +47,8 @@ RightByBook book (Submission clock m) seen = seen .number ≡ bookStamp book clo
 RightByBook book (Clear day stamp) seen = Unit {0}
 RightByBook book (Evaluation day quarter T lent) seen = Gives (book .page .registration) (bookResult book day quarter T) seen
 
--- two evaluations are equal in these five: each part of the result, pair shares, remaining withdrawals, remaining supplies and origins, and the round count
+-- two evaluations are equal in five: the four parts of the result, which are pair shares, remaining withdrawals, remaining supplies and origins, and the
+-- round count
 pub record SameResult (r : Registration) (a b : Seen) : Type 0 where
   pub parts : (part : Part) → partIn r part (a .result) ≡ partIn r part (b .result)
   pub rounds : a .number ≡ b .number

@@ -17,11 +17,11 @@ use Rattle.allocation.proofs.Laws.{allocation-same}
 use Rattle.lookup.specs.declared.Asked.{Asked}
 use Rattle.lookup.specs.declared.PointValue.{PointValue}
 use Rattle.lookup.specs.declared.PointValues.{PointValues}
-use Rattle.lookup.specs.Working.{pointReadings, AllOf}
+use Rattle.lookup.specs.Working.{pointReadings, valueOfPoint, AllOf}
 use Rattle.lookup.proofs.Greatest.{readings-small, value-within}
-use Rattle.evaluation.specs.Evaluation.{Result, resultFrom, valuesIn}
+use Rattle.evaluation.specs.Evaluation.{Result, resultFrom}
 use Rattle.evaluation.specs.Layout.{resultOf, ResultPut}
-use Rattle.evaluation.specs.Working.{resultIn}
+use Rattle.evaluation.specs.Working.{valuesIn, resultIn}
 
 -- results of values that agree at each point
 pub result-same : (r : Registration) (f g : ℕ → PointValue) → ((point : ℕ) → point < points r → f point ≡ g point) → resultFrom r f ≡ resultFrom r g
@@ -47,7 +47,7 @@ module _ (r : Registration) {es : List Entry} {asked : Asked} (all : PointValues
       → ResultPut (resultFrom r (valuesIn r es (asked .day) (asked .quarter) (asked .until))) before after (allocated .rounds)
   unfolding resultFrom
   evaluated {before} allocated done put =
-      let held : resultIn r allocated (all .origins) ≡ resultFrom r (λ point. record { magnitude = getD (all .magnitudes) point 0; origin = getD (all .origins) point 0 }) =
+      let held : resultIn r allocated (all .origins) ≡ resultFrom r (valueOfPoint all) =
       rw done in
       let same : resultIn r allocated (all .origins) ≡ resultFrom r (valuesIn r es (asked .day) (asked .quarter) (asked .until)) =
       held ∙ result-same r _ _ (a .each) in

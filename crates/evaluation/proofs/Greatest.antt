@@ -10,7 +10,8 @@ use Rattle.allocation.specs.Input.{Shareable}
 use Rattle.allocation.specs.Result.{allocationOf}
 use Rattle.allocation.proofs.Laws.{rounds-most}
 use Rattle.lookup.specs.Substitutes.{lookedUp}
-use Rattle.lookup.proofs.Greatest.{AllSmall, value-within, origin-within}
+use Rattle.lookup.proofs.Greatest.{AllSmall, value-within}
+use Rattle.lookup.proofs.Origins.{origins-tell}
 use Rattle.evaluation.specs.Evaluation.{resultFrom, evaluationOf}
 use Rattle.evaluation.specs.Layout.{resultOf}
 use Rattle.evaluation.proofs.ResultBounds.{ResultWithin, result-within}
@@ -23,7 +24,7 @@ module _ (r : Registration) (readings : ℕ → ℕ → ℕ → List Reading) (d
   evaluation-within s each lent =
       result-within r (λ point. lookedUp (statusAt r point) (readings (codeAt r point)) day quarter T) s
       (λ point h. value-within (statusAt r point) (readings (codeAt r point)) day quarter T (each (codeAt r point)))
-      (λ point h. origin-within (statusAt r point) (readings (codeAt r point)) day quarter T) lent
+      (λ point h. origins-tell (statusAt r point) (readings (codeAt r point)) day quarter T .most) lent
 
   -- the rounds are few
   pub rounds-few : evaluationOf r readings day quarter T .allocation .rounds ≤ 5

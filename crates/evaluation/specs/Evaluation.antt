@@ -6,7 +6,6 @@ use Rattle.registration.specs.declared.Registration.{Registration}
 use Rattle.registration.specs.Rules.{points, codeAt, statusAt}
 use Rattle.allocation.specs.Result.{Allocation, allocationOf}
 use Rattle.journal.specs.Order.{Reading}
-use Rattle.journal.specs.Entries.{Entry, placeOf, readingsAt}
 use Rattle.lookup.specs.declared.PointValue.{PointValue}
 use Rattle.lookup.specs.Substitutes.{lookedUp}
 
@@ -27,7 +26,3 @@ resultFrom r value =
 unfoldable pub evaluationOf : Registration → (readings : ℕ → ℕ → ℕ → List Reading) → (day quarter T : ℕ) → Result
 evaluationOf r readings day quarter T =
     resultFrom r (λ point. lookedUp (statusAt r point) (readings (codeAt r point)) day quarter T)
-
--- the values of all points, from entries whose places have the points' own numbers
-abbrev pub valuesIn : Registration → List Entry → (day quarter T : ℕ) → ℕ → PointValue
-valuesIn r es day quarter T point = lookedUp (statusAt r point) (λ d q. readingsAt es (placeOf point d q)) day quarter T

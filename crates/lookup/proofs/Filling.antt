@@ -10,7 +10,7 @@ use Rattle.lists.proofs.Below.{below}
 use Rattle.journal.specs.Entries.{Entry}
 use Rattle.lookup.specs.declared.Asked.{Asked}
 use Rattle.lookup.specs.declared.PointValue.{PointValue}
-use Rattle.lookup.specs.Working.{ownValue, lookedUpIn, valueFor, OwnOf, AllOf}
+use Rattle.lookup.specs.Working.{ownValue, lookedUpIn, valueFor, OwnOf, valueOfPoint, AllOf}
 
 module _ (es : List Entry) (asked : Asked) (statuses : List ℕ) where
   -- the value of a point, by its status
@@ -40,9 +40,8 @@ module _ (es : List Entry) (asked : Asked) (statuses : List ℕ) where
           each = λ point l.
               below
               (λ (k : ℕ).
-              _≡_ {A = PointValue}
-              (record { magnitude = getD (set magnitudes points (value .magnitude)) k 0; origin = getD (set origins points (value .origin)) k 0 })
-              (valueOf k)) points point (omega arith)
+              valueOfPoint (record { magnitudes = set magnitudes points (value .magnitude); origins = set origins points (value .origin) }) k ≡ valueOf k)
+              points point (omega arith)
               (λ m.
               rw (getD-set-other magnitudes points point (value .magnitude) 0 (omega arith), getD-set-other origins points point (value .origin) 0 (omega arith))
               (before .done .each point m))

@@ -1,4 +1,4 @@
--- Where the entries are right, no point's value is above the greatest magnitude of a reading; and no origin is above 6. Assumes nothing.
+-- Where the entries are right, no point's value is above the greatest magnitude of a reading. Assumes nothing.
 use Prim.Native.Nat.{ℕ, _≤_}
 use mathlib.Core.Path.{_≡_}
 use mathlib.Core.Bool.{true}
@@ -18,7 +18,7 @@ use Rattle.values.specs.Values.{magnitudeMost}
 use Rattle.lookup.specs.Earlier.{Slot, earlier}
 use Rattle.lookup.specs.Substitutes.{valueAt, lookedUp}
 use Rattle.lookup.proofs.Means.{Small}
-use Rattle.lookup.proofs.Substituted.{from-within, origin-most}
+use Rattle.lookup.proofs.Substituted.{from-within}
 
 -- the magnitude of each reading is at most the greatest
 abbrev pub AllSmall : List Reading → Type 0
@@ -56,15 +56,10 @@ value-small : (T : ℕ) (readings : ℕ → ℕ → List Reading) → ((day quar
 value-small T readings each none = tt
 value-small T readings each (some slot) = shown-small T (readings (slot .day) (slot .quarter)) (each (slot .day) (slot .quarter))
 
-module _ (status : ℕ) (readings : ℕ → ℕ → List Reading) (day quarter T : ℕ) where
-  -- so the magnitude of a point is within
-  pub value-within : ((day quarter : ℕ) → AllSmall (readings day quarter)) → lookedUp status readings day quarter T .magnitude ≤ magnitudeMost
-  unfolding lookedUp
-  value-within each =
-      from-within status (valueShown (shown T (readings day quarter))) (λ n. valueAt T readings (earlier n day quarter))
-      (shown-small T (readings day quarter) (each day quarter)) (λ n h. value-small T readings each (earlier n day quarter))
-
-  -- its origin is at most 6, whatever the readings
-  pub origin-within : lookedUp status readings day quarter T .origin ≤ 6
-  unfolding lookedUp
-  origin-within = origin-most status (valueShown (shown T (readings day quarter))) (λ n. valueAt T readings (earlier n day quarter))
+-- so the magnitude of a point is within
+pub value-within : (status : ℕ) (readings : ℕ → ℕ → List Reading) (day quarter T : ℕ) → ((day quarter : ℕ) → AllSmall (readings day quarter))
+    → lookedUp status readings day quarter T .magnitude ≤ magnitudeMost
+unfolding lookedUp
+value-within status readings day quarter T each =
+    from-within status (valueShown (shown T (readings day quarter))) (λ n. valueAt T readings (earlier n day quarter))
+    (shown-small T (readings day quarter) (each day quarter)) (λ n h. value-small T readings each (earlier n day quarter))

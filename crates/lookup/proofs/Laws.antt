@@ -1,5 +1,5 @@
 -- What users of a look-up rely on: means are nearest, a reading counts, and what stands in for a missing one. Assumes nothing.
-use Prim.Native.Nat.{ℕ, _≤_}
+use Prim.Native.Nat.{ℕ}
 use mathlib.Core.Path.{_≡_, _∙_}
 use mathlib.Core.Option.{none}
 use mathlib.Core.List.{List}

@@ -10,7 +10,7 @@ use Rattle.journal.specs.Order.{Reading}
 use Rattle.journal.specs.Readings.{shown}
 use Rattle.lookup.specs.Earlier.{weekDays, earlier}
 use Rattle.lookup.specs.Substitutes.{existing, valueAt, weeksBefore}
-use Rattle.lookup.specs.Laws.{shownBefore}
+use Rattle.lookup.specs.Laws.{shownBefore, shownInWeeks}
 
 module _ (readings : ℕ → ℕ → List Reading) (day quarter T : ℕ) where
   -- an earlier week's value, before others, among those that exist
@@ -24,8 +24,6 @@ module _ (readings : ℕ → ℕ → List Reading) (day quarter T : ℕ) where
       (λ f. rw f))
 
   -- those of the four weeks
-  pub weeks-exist : existing (weeksBefore readings day quarter T)
-      ≡ shownBefore 7 readings day quarter T
-      ++ (shownBefore 14 readings day quarter T ++ (shownBefore 21 readings day quarter T ++ shownBefore 28 readings day quarter T))
+  pub weeks-exist : existing (weeksBefore readings day quarter T) ≡ shownInWeeks readings day quarter T
   unfolding existing
   weeks-exist = rw (week-exists 1 7 _ refl, week-exists 2 14 _ refl, week-exists 3 21 _ refl, week-exists 4 28 _ refl, append-nil)

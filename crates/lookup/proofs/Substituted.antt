@@ -1,6 +1,6 @@
--- The value and the origin of a point: by what the code finds of its own quarter hour and of its earlier weeks; the value is never above the greatest
--- magnitude of a reading, and the origin never above 6. Assumes nothing.
-use Prim.Native.Nat.{ℕ, zero, suc, _+_, _-_, _≤_, _<_}
+-- The value and the origin of a point, by what the code finds of its own quarter hour and of its earlier weeks; the value is never above the greatest
+-- magnitude of a reading. Assumes nothing.
+use Prim.Native.Nat.{ℕ, zero, suc, _-_, _≤_, _<_}
 use mathlib.Core.Path.{_≡_, refl, sym, ap, _∙_}
 use mathlib.Core.Bool.{true, false}
 use mathlib.Core.List.{List, [], _∷_, map}
@@ -85,15 +85,3 @@ unfolding existing
 existing-few [] = omega arith
 existing-few (none ∷ values) = omega (arith, existing-few values)
 existing-few (some value ∷ values) = omega (arith, existing-few values)
-
--- the mean of up to four values has an origin of 1 to 4, or 6
-mean-origin : (values : List ℕ) → length values ≤ 4 → meanValue values .origin ≤ 6
-mean-origin [] h = omega arith
-mean-origin (value ∷ values) h = omega arith
-
--- no origin is above 6
-pub origin-most : (status : ℕ) (value : Option Value) (week : ℕ → Option Value) → lookedUpFrom status value (map week fourWeeks) .origin ≤ 6
-origin-most status none week =
-    by-test (notActive status) (λ t. rw t (omega arith))
-    (λ f. rw f (mean-origin (existing (map week fourWeeks)) (omega (arith, existing-few (map week fourWeeks)))))
-origin-most status (some value) week = omega arith

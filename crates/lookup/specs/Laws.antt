@@ -57,7 +57,7 @@ MissingIsMean =
     → let weeks = shownInWeeks readings day quarter T in
     1 ≤ length weeks → lookedUp 0 readings day quarter T ≡ record { magnitude = meanOf weeks; origin = length weeks }
 
--- and zero for lack of readings where none of them is
+-- and zero for lack of readings where none is shown in these weeks
 abbrev pub MissingForLack : Type 0
 MissingForLack =
     (readings : ℕ → ℕ → List Reading) (day quarter T : ℕ) → shown T (readings day quarter) ≡ none

@@ -62,7 +62,7 @@ pub record OwnOf (es : List Entry) (asked : Asked) (own : List ℕ) : Type 0 whe
   pub size : length own ≡ 64
   pub values : (point : ℕ) → point < 64 → valueFor (getD own point 0) ≡ ownValue es asked point
 
--- the value that magnitudes and origins by point have for one
+-- the value of a point, from magnitudes and origins by point
 abbrev pub valueOfPoint : PointValues → (point : ℕ) → PointValue
 valueOfPoint all point = record { magnitude = getD (all .magnitudes) point 0; origin = getD (all .origins) point 0 }
 

@@ -1,7 +1,6 @@
 // The values of a group's points in a quarter hour as of a stamp, each with its origin: what each point's own quarter hour shows is gathered in one
 // pass over the journal; where there is no reading, the status or the earlier weeks decide on what stands in for it.
 ghost use mathlib.Core.Path.{_≡_};
-ghost use mathlib.Core.Bool.{true};
 ghost use Prim.Native.Nat.{_*_, _≤_, _<_};
 ghost use lib.ListN.{length};
 ghost use Rattle.values.specs.Values.{magnitudeMost};

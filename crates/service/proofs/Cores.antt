@@ -15,7 +15,8 @@ use Rattle.registration.proofs.Damage.{undamaged-parts}
 use Rattle.allocation.specs.Input.{Shareable}
 use Rattle.evaluation.specs.Layout.{sizeOf, ResultPut}
 use Rattle.allocation.proofs.Laws.{undamaged-is-shareable}
-use Rattle.evaluation.specs.Evaluation.{resultFrom, valuesIn}
+use Rattle.evaluation.specs.Evaluation.{resultFrom}
+use Rattle.evaluation.specs.Working.{valuesIn}
 use Rattle.journal.specs.Readings.{shown, stampOf}
 use Rattle.journal.specs.Damage.{Right}
 use Rattle.journal.specs.Entries.{Entry, keep}

@@ -5,7 +5,8 @@ use mathlib.Core.Bool.{true}
 use Rattle.registration.specs.Rules.{points, codeAt, statusAt, codesDiffer}
 use Rattle.journal.specs.Entries.{placeOf, readingsAt}
 use Rattle.lookup.specs.Substitutes.{lookedUp}
-use Rattle.evaluation.specs.Evaluation.{resultFrom, evaluationOf, valuesIn}
+use Rattle.evaluation.specs.Evaluation.{resultFrom, evaluationOf}
+use Rattle.evaluation.specs.Working.{valuesIn}
 use Rattle.evaluation.proofs.Evaluated.{result-same}
 use Rattle.group.specs.Group.{Group, readingsOf}
 use Rattle.points.proofs.Index.{index-own}

@@ -124,7 +124,8 @@ impl Service {
         )
     }
 
-    // The evaluation of a quarter hour as of a stamp: the result list gets pair shares, remaining withdrawals and remaining supplies.
+    // The evaluation of a quarter hour as of a stamp: the result list gets pair shares, remaining withdrawals, remaining supplies, and the origin of each
+    // value.
     pub fn evaluate(
         self,
         journal: &[u64],

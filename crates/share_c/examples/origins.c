@@ -50,11 +50,11 @@ enum { SUBMISSIONS = sizeof submissions / sizeof submissions[0], JOURNAL = 3 * S
 
 /* What each origin means. */
 static const char *const meanings[] = {
-    [SHARE_MEASURED] = "measured",
-    [SHARE_MEAN_OF_ONE_WEEK] = "no reading: the mean of one earlier week",
-    [SHARE_MEAN_OF_TWO_WEEKS] = "no reading: the mean of two earlier weeks",
-    [SHARE_MEAN_OF_THREE_WEEKS] = "no reading: the mean of three earlier weeks",
-    [SHARE_MEAN_OF_FOUR_WEEKS] = "no reading: the mean of four earlier weeks",
+    [SHARE_MEASURED] = "measured: the quarter hour has a reading",
+    [SHARE_MEAN_OF_ONE_WEEK] = "no reading: the reading of one earlier week",
+    [SHARE_MEAN_OF_TWO_WEEKS] = "no reading: the mean of the readings of two earlier weeks",
+    [SHARE_MEAN_OF_THREE_WEEKS] = "no reading: the mean of the readings of three earlier weeks",
+    [SHARE_MEAN_OF_FOUR_WEEKS] = "no reading: the mean of the readings of four earlier weeks",
     [SHARE_ZERO_BY_STATUS] = "no reading: zero, since the point is not active",
     [SHARE_ZERO_FOR_LACK] = "no reading: zero, since none of the four earlier weeks has one",
 };

@@ -1,10 +1,11 @@
 //! A call made through the library and through the second implementation, with all that it gives and leaves compared.
 
+use crate::named::Named;
 use crate::sides::{self, Event};
 use second::registration::Registration;
 use second::registration_text;
 use second::service::{Service, State};
-use share_library::calls;
+use share_library::{calls, Refusal};
 
 /// A call, with what is lent to it beside record and journal.
 #[derive(Clone, Debug)]
@@ -156,7 +157,21 @@ impl Both {
         same("the journal", wanted.0, &self.journal, &self.second.journal)?;
         same("the result list", wanted.0, &results, &expected)?;
         self.result = expected;
-        Ok(wanted.0)
+        match event {
+            Event::Evaluation { day, quarter, until } if wanted.0 == 0 => self.by_name(day, quarter, until),
+            _ => Ok(wanted.0),
+        }
+    }
+
+    /// Makes an accepted evaluation's call by the package's method, and compares all that its result says by name.
+    fn by_name(&self, day: u64, quarter: u64, until: u64) -> Result<u64, String> {
+        let mut list = vec![0; self.result.len()];
+        let registration = &self.second.service.registration;
+        let codes = &registration.codes[..registration.points()];
+        let given = self.service.evaluate(&self.journal, day, quarter, until, &mut list);
+        let named = given.map(|evaluation| Named::of_package(&evaluation, codes));
+        let expected = Named::of_second(&self.second, day, quarter, until);
+        same("the result by name", 0, named.map_err(Refusal::number), Ok(expected))
     }
 
     /// The record and the journal of the second implementation, as the calls so far left them.

@@ -2,10 +2,10 @@
 //! that go back, and every kind of argument that is refused.
 
 use crate::calls::Kept;
+use crate::edges;
 use crate::groups;
 use crate::random::Random;
 use crate::sides::Event;
-use crate::weeks;
 use second::calendar;
 use second::registration::Registration;
 use second::service::{Service, State};
@@ -165,7 +165,7 @@ fn lone(random: &mut Random, kept: &Kept, slots: &Slots) -> Option<Event> {
     let point = random.place(kept.service.registration.points());
     let (first, quarter) = (slots.days[0], random.pick(&slots.quarters));
     let day = first.checked_sub(7 * random.between(1, 4))?;
-    let none = weeks::shown(kept, point, first, quarter, u64::MAX) == [None; 5];
+    let none = edges::shown(kept, point, first, quarter, u64::MAX) == [None; 5];
     let both_have = [first, day].iter().all(|&on| calendar::quarters(on) >= Some(quarter));
     if !none || !both_have {
         return None;

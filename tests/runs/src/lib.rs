@@ -3,10 +3,12 @@
 pub mod calendar;
 pub mod calls;
 pub mod damage;
+pub mod edges;
 pub mod events;
 pub mod groups;
 pub mod library;
 pub mod lines;
+pub mod named;
 pub mod origins;
 pub mod program;
 pub mod random;
@@ -14,4 +16,3 @@ pub mod sheets;
 pub mod sides;
 pub mod smaller;
 pub mod soak;
-pub mod weeks;

@@ -3,6 +3,7 @@
 
 use crate::calls::{Both, Call, Kept};
 use crate::damage::{self, Break};
+use crate::edges::Edges;
 use crate::events::{self, Slots};
 use crate::groups;
 use crate::lines;
@@ -11,7 +12,6 @@ use crate::random::Random;
 use crate::sheets;
 use crate::sides::Event;
 use crate::smaller;
-use crate::weeks::Edges;
 use second::evaluation::result_size;
 use second::refusal;
 use second::registration::Registration;
@@ -79,7 +79,6 @@ impl Seen {
                 self.calls, self.damaged
             ));
         }
-        origins::all_seen(&self.origins)?;
         let cases = [&self.origins[..], &self.edges.counts(), &self.short].concat();
         if cases.iter().any(|&seen| seen < CASES_LEAST) {
             return Err(format!(

@@ -19,10 +19,13 @@ pub fn count(seen: &mut Origins, origins: impl IntoIterator<Item = u64>) {
     }
 }
 
-/// Says which origin never occurred, where all are to.
-pub fn all_seen(seen: &Origins) -> Result<(), String> {
-    match seen.iter().position(|&times| times == 0) {
-        Some(missing) => Err(format!("no value of an accepted evaluation has the origin {missing}")),
+/// Says which origin occurred less often than each has to.
+pub fn enough(seen: &Origins, least: u64) -> Result<(), String> {
+    match seen.iter().position(|&times| times < least) {
+        Some(origin) => Err(format!(
+            "only {} values have the origin {origin}, and {least} have to",
+            seen[origin]
+        )),
         None => Ok(()),
     }
 }
@@ -43,13 +46,14 @@ mod tests {
     }
 
     #[test]
-    fn an_origin_that_never_occurred_is_told() {
+    fn an_origin_that_occurred_too_seldom_is_told() {
         let mut seen = Origins::default();
         count(&mut seen, [0, 1, 2, 3, 4, 6, 6]);
         assert_eq!(seen, [1, 1, 1, 1, 1, 0, 2]);
-        let told = all_seen(&seen).unwrap_err();
-        assert_eq!(told, "no value of an accepted evaluation has the origin 5");
+        let told = enough(&seen, 1).unwrap_err();
+        assert_eq!(told, "only 0 values have the origin 5, and 1 have to");
         count(&mut seen, [5]);
-        assert_eq!(all_seen(&seen), Ok(()));
+        assert_eq!(enough(&seen, 1), Ok(()));
+        assert!(enough(&seen, 2).is_err());
     }
 }

@@ -125,10 +125,11 @@ struct Seen {
     origins: Origins,
 }
 
-/// The number in a column of a line.
+/// The number in a column of a line, which has to have one.
 fn number(line: &[u8], column: std::ops::Range<usize>) -> usize {
     let text = line.get(column).and_then(|bytes| std::str::from_utf8(bytes).ok());
-    text.and_then(|text| text.trim().parse().ok()).unwrap_or(0)
+    text.and_then(|text| text.trim().parse().ok())
+        .unwrap_or_else(|| panic!("a line without its number: '{}'", line.escape_ascii()))
 }
 
 impl Seen {
@@ -148,7 +149,7 @@ impl Seen {
         if let Some(missing) = ANSWERS.clone().find(|&answer| self.answers[answer] == 0) {
             return Err(format!("no input was answered by {missing}"));
         }
-        origins::all_seen(&self.origins)
+        origins::enough(&self.origins, 1)
     }
 }
 

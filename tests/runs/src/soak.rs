@@ -19,6 +19,9 @@ pub const CALLS: u64 = 1_000_000;
 /// How many entries the journal has room for.
 const ROOM: usize = 1200;
 
+/// How often at least each origin is to occur in all the calls of the tests.
+const ORIGINS_LEAST: u64 = 4_000;
+
 /// How many past evaluations are asked again.
 const REMEMBERED: usize = 200;
 
@@ -281,7 +284,7 @@ impl Soak {
 
     /// Says what was seen too seldom for a run of a million calls.
     fn enough(&self) -> Result<(), String> {
-        origins::all_seen(&self.seen.origins)?;
+        origins::enough(&self.seen.origins, ORIGINS_LEAST)?;
         let Seen {
             new_readings,
             repeats,

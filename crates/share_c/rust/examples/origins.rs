@@ -1,5 +1,6 @@
 //! Where values came from, through the static library: a group in which every origin occurs. A line for each point has its
-//! code, its value in the quarter hour, what remains of that after all shares, and its origin.
+//! code, its value in the quarter hour, what remains of that after all shares, and its origin. A correction that comes
+//! later alters nothing of it as of the stamp before.
 
 use share_library::{Measurement, Refusal, Registration, Service, RESULT_MOST};
 
@@ -36,7 +37,7 @@ const SUBMISSIONS: [(u64, u64, u64, i64); 14] = [
 fn main() -> Result<(), Refusal> {
     let mut service = Service::fresh(&Registration::read(TEXT.as_bytes())?)?;
     let day = share_library::day(20240130)?;
-    let mut journal = [0; 3 * SUBMISSIONS.len()];
+    let mut journal = [0; 3 * (SUBMISSIONS.len() + 1)];
     for (code, weeks, quarter, value) in SUBMISSIONS {
         let measurement = Measurement {
             code,
@@ -46,10 +47,22 @@ fn main() -> Result<(), Refusal> {
         };
         service.submit(&mut journal, 1000, measurement)?;
     }
+    let until = service.state.last;
     let mut result = [0; RESULT_MOST];
-    let evaluation = service.evaluate(&journal, day, 49, service.state.last, &mut result)?;
+    let evaluation = service.evaluate(&journal, day, 49, until, &mut result)?;
     for point in evaluation.points() {
         println!("{}{:8}{:8}  {}", point.code, point.value, point.remaining, point.origin);
     }
+    let correction = Measurement {
+        code: 859182400220162088,
+        day,
+        quarter: 49,
+        value: 500,
+    };
+    service.submit(&mut journal, 1000, correction)?;
+    let mut later = [0; RESULT_MOST];
+    assert_eq!(service.evaluate(&journal, day, 49, until, &mut later)?, evaluation);
+    let newest = service.evaluate(&journal, day, 49, service.state.last, &mut later)?;
+    assert_ne!(newest, evaluation);
     Ok(())
 }

@@ -2,11 +2,12 @@
 
 use crate::{Origin, Registration};
 
-/// What an evaluation gave: the round count, and the numbers of the result, which stand in the caller's list. Two results
-/// are equal where registration, round count and all numbers are.
+/// What an evaluation gave: the round count, and the numbers of the result, which stand in the caller's list. It borrows
+/// that list alone, so the service can be used while a result is held. Two results are equal where registration, round
+/// count and all numbers are.
 #[derive(Clone, Copy, PartialEq, Eq, Debug)]
 pub struct Evaluation<'a> {
-    registration: &'a Registration,
+    registration: Registration,
     rounds: usize,
     numbers: &'a [u64],
     shares: &'a [u64],
@@ -35,16 +36,23 @@ pub struct PointResult {
 
 impl<'a> Evaluation<'a> {
     /// The result that stands at the front of a list: shares, remaining withdrawals, remaining supplies, origins.
-    pub(crate) fn of(registration: &'a Registration, rounds: usize, list: &'a [u64]) -> Evaluation<'a> {
-        let (shares, rest) = front(list, registration.pairs().count());
-        let (withdrawals, rest) = front(rest, registration.consumers);
-        let (supplies, rest) = front(rest, registration.producers);
-        let (origins, later) = front(rest, registration.producers.saturating_add(registration.consumers));
-        let (numbers, _) = front(list, list.len() - later.len());
+    pub(crate) fn of(registration: Registration, rounds: usize, list: &'a [u64]) -> Evaluation<'a> {
+        // Only an accepted evaluation comes here: its registration keeps every rule, and all its numbers are in the list.
+        // What bears other ones, here and below, is there so that nothing can panic.
+        let mut rest = list;
+        let mut part = |count: usize| {
+            let (part, later) = rest.split_at(count.min(rest.len()));
+            rest = later;
+            part
+        };
+        let shares = part(registration.pairs().count());
+        let withdrawals = part(registration.consumers);
+        let supplies = part(registration.producers);
+        let origins = part(supplies.len() + withdrawals.len());
         Evaluation {
             registration,
             rounds,
-            numbers,
+            numbers: &list[..list.len() - rest.len()],
             shares,
             withdrawals,
             supplies,
@@ -63,7 +71,7 @@ impl<'a> Evaluation<'a> {
     }
 
     /// Each pair's share: consumers in order, priorities within.
-    pub fn shares(&self) -> impl Iterator<Item = Share> + 'a {
+    pub fn shares(&self) -> impl Iterator<Item = Share> + '_ {
         let pairs = self.registration.pairs().zip(self.shares);
         pairs.map(|((consumer, producer), &share)| Share {
             consumer,
@@ -84,13 +92,12 @@ impl<'a> Evaluation<'a> {
 
     /// Where each point's value came from, producers first.
     pub fn origins(&self) -> impl Iterator<Item = Origin> + 'a {
-        self.origins.iter().map_while(|&number| Origin::from_number(number))
+        self.origins.iter().copied().filter_map(Origin::from_number)
     }
 
     /// What the result says of each point, producers first.
-    pub fn points(&self) -> impl Iterator<Item = PointResult> + 'a {
-        let evaluation = *self;
-        (0..evaluation.origins.len()).map_while(move |point| evaluation.point(point))
+    pub fn points(&self) -> impl Iterator<Item = PointResult> + '_ {
+        (0..self.origins.len()).filter_map(|point| self.point(point))
     }
 
     /// What the result says of the point with this code, if the group has it.
@@ -101,24 +108,17 @@ impl<'a> Evaluation<'a> {
 
     /// What the result says of a point; points count from 0, producers first. Shares and remainder add up to the value.
     fn point(&self, point: usize) -> Option<PointResult> {
-        let code = *self.registration.codes.get(point)?;
+        let consumer = point.checked_sub(self.registration.producers);
         let remaining = *self.supplies.iter().chain(self.withdrawals).nth(point)?;
-        let origin = self.origins().nth(point)?;
-        let producers = self.registration.producers;
-        let own = |share: &Share| share.producer == point || producers.checked_add(share.consumer) == Some(point);
+        let own = |share: &Share| share.producer == point || Some(share.consumer) == consumer;
         let shares = self.shares().filter(own).map(|share| share.share);
         Some(PointResult {
-            code,
+            code: *self.registration.codes.get(point)?,
             value: shares.fold(remaining, u64::saturating_add),
             remaining,
-            origin,
+            origin: Origin::from_number(*self.origins.get(point)?)?,
         })
     }
-}
-
-/// The first numbers of a list and the later ones; where it has not so many, all and none.
-fn front(list: &[u64], count: usize) -> (&[u64], &[u64]) {
-    list.split_at(count.min(list.len()))
 }
 
 #[cfg(test)]
@@ -155,8 +155,7 @@ mod tests {
 
     #[test]
     fn parts_stand_one_after_the_other() {
-        let group = group();
-        let evaluation = Evaluation::of(&group, 2, &LIST);
+        let evaluation = Evaluation::of(group(), 2, &LIST);
         let pairs = [(0, 1, 10), (0, 0, 20), (1, 0, 30)];
         let shares = pairs.map(|(consumer, producer, share)| Share {
             consumer,
@@ -174,8 +173,7 @@ mod tests {
 
     #[test]
     fn a_point_is_found_by_its_code() {
-        let group = group();
-        let evaluation = Evaluation::of(&group, 2, &LIST);
+        let evaluation = Evaluation::of(group(), 2, &LIST);
         let found = [
             (11, 20 + 30 + 3, 3, Origin::Measured),
             (12, 10 + 4, 4, Origin::ZeroForLack),
@@ -197,15 +195,6 @@ mod tests {
     }
 
     #[test]
-    fn codes_are_given_by_producer_and_by_consumer() {
-        let group = group();
-        let producers = [0, 1, 2].map(|producer| group.producer_code(producer));
-        let consumers = [0, 1, 2].map(|consumer| group.consumer_code(consumer));
-        assert_eq!(producers, [Some(11), Some(12), None]);
-        assert_eq!(consumers, [Some(13), Some(14), None]);
-    }
-
-    #[test]
     fn the_longest_result_fills_the_longest_list() {
         let mut group = NOTHING;
         group.producers = 5;
@@ -213,23 +202,22 @@ mod tests {
         group.counts[..59].fill(5);
         group.sources[..295].fill(1);
         let list = [0; RESULT_MOST + 1];
-        let evaluation = Evaluation::of(&group, 1, &list);
+        let evaluation = Evaluation::of(group, 1, &list);
         assert_eq!(evaluation.numbers().len(), RESULT_MOST);
         assert_eq!(evaluation.points().count(), 64);
     }
 
     #[test]
-    fn numbers_that_no_evaluation_gives_are_passed_over() {
+    fn what_no_evaluation_gives_is_borne() {
+        let short = Evaluation::of(group(), 0, &LIST[..8]);
+        assert_eq!(short.points().count(), 1);
+        assert_eq!(short.of_code(12), None);
         let mut group = group();
-        let evaluation = Evaluation::of(&group, 0, &LIST[..8]);
-        assert_eq!(evaluation.points().count(), 1);
-        assert_eq!(evaluation.of_code(12), None);
-        group.producers = usize::MAX;
-        group.consumers = usize::MAX;
+        (group.producers, group.consumers) = (usize::MAX, usize::MAX);
         group.counts = [u8::MAX; 64];
-        let evaluation = Evaluation::of(&group, 0, &LIST);
-        assert_eq!(evaluation.shares().count(), LIST.len());
-        assert_eq!(evaluation.points().count(), 0);
-        assert_eq!(evaluation.of_code(11), None);
+        let damaged = Evaluation::of(group, 0, &LIST);
+        assert_eq!(damaged.shares().count(), LIST.len());
+        assert_eq!(damaged.points().count(), 0);
+        assert_eq!(damaged.of_code(11), None);
     }
 }

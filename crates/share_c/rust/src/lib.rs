@@ -1,7 +1,8 @@
 //! The proved server for Rust: safe calls over the static library of crate share_c.
 //!
-//! [`calls`] has the library's calls as they are, each with an answer of numbers; the methods of [`Registration`] and
-//! [`Service`] give a `Result` instead, and an evaluation's by name: [`Evaluation`].
+//! [`calls`] has the library's calls as they are: each answers by numbers. The methods of [`Registration`] and [`Service`],
+//! [`day`] and [`changeover`] make these calls and give a `Result`, with a [`Refusal`] where a call is refused. An accepted
+//! evaluation gives an [`Evaluation`], in which the parts of the result have names.
 
 pub mod calls;
 mod evaluation;
@@ -90,17 +91,6 @@ impl Registration {
         Refusal::unless(written.answer, written.bytes)
     }
 
-    /// The code of a producer; producers count from 0.
-    pub fn producer_code(&self, producer: usize) -> Option<u64> {
-        self.codes.iter().take(self.producers).nth(producer).copied()
-    }
-
-    /// The code of a consumer; consumers count from 0.
-    pub fn consumer_code(&self, consumer: usize) -> Option<u64> {
-        let codes = self.codes.iter().skip(self.producers).take(self.consumers);
-        codes.copied().nth(consumer)
-    }
-
     /// Each consumer with each producer that it names, both counted from 0: consumers in order, priorities within.
     pub(crate) fn pairs(&self) -> impl Iterator<Item = (usize, usize)> + '_ {
         let named = self.sources.chunks(NAMED_MOST).zip(self.counts).take(self.consumers);
@@ -134,10 +124,10 @@ impl Service {
 
     /// Evaluates a quarter hour as of a stamp. The result list gets the pairs' shares, then what remains of each withdrawal,
     /// then of each supply, then the origin of each point's value; later numbers stay. It needs a number for each pair and
-    /// two for each point; [`RESULT_MOST`] are always enough. Two accepted evaluations of one quarter hour as of one stamp
-    /// give the same, whatever was submitted or cleared between them.
+    /// two for each point; [`RESULT_MOST`] are always enough. What is given borrows that list alone. Two accepted evaluations
+    /// of one quarter hour as of one stamp give the same, whatever was submitted or cleared between them.
     pub fn evaluate<'a>(
-        &'a self,
+        &self,
         journal: &[u64],
         day: u64,
         quarter: u64,
@@ -146,7 +136,7 @@ impl Service {
     ) -> Result<Evaluation<'a>, Refusal> {
         let evaluated = calls::evaluate(self, journal, day, quarter, until, result);
         let rounds = Refusal::unless(evaluated.answer, evaluated.rounds)?;
-        Ok(Evaluation::of(&self.registration, rounds, result))
+        Ok(Evaluation::of(self.registration, rounds, result))
     }
 }
 

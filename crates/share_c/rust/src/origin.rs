@@ -2,15 +2,24 @@
 
 use std::fmt;
 
-/// The origins, each with its number.
+/// The origins, each with its number. Readings up to the evaluation's stamp count, and one of 0 is a reading; an earlier
+/// week's reading is that of the quarter hour of the same number 7, 14, 21 or 28 days before.
 #[derive(Clone, Copy, PartialEq, Eq, Debug)]
 pub enum Origin {
+    /// The quarter hour has a reading, which is the value, whatever the point's status.
     Measured = 0,
+    /// The quarter hour has no reading; the value is the reading of one earlier week.
     MeanOfOneWeek = 1,
+    /// The quarter hour has no reading; the value is the mean of the readings of two earlier weeks.
     MeanOfTwoWeeks = 2,
+    /// The quarter hour has no reading; the value is the mean of the readings of three earlier weeks.
     MeanOfThreeWeeks = 3,
+    /// The quarter hour has no reading; the value is the mean of the readings of four earlier weeks.
     MeanOfFourWeeks = 4,
+    /// The quarter hour has no reading, and the point's status is above 0; the value is zero, whatever the earlier weeks
+    /// have.
     ZeroByStatus = 5,
+    /// The quarter hour has no reading, the point's status is 0, and no earlier week has a reading; the value is zero.
     ZeroForLack = 6,
 }
 
@@ -36,7 +45,7 @@ impl Origin {
         Origin::ALL.into_iter().find(|origin| origin.number() == number)
     }
 
-    /// How many earlier weeks are in the mean that stands in for a missing reading, 0 where the value is no mean.
+    /// How many earlier weeks' readings stand in for a missing one, 0 where none does.
     pub fn weeks(self) -> u64 {
         match self {
             Origin::MeanOfOneWeek => 1,
@@ -51,11 +60,11 @@ impl Origin {
 impl fmt::Display for Origin {
     fn fmt(&self, out: &mut fmt::Formatter) -> fmt::Result {
         out.pad(match self {
-            Origin::Measured => "measured",
-            Origin::MeanOfOneWeek => "no reading: the mean of one earlier week",
-            Origin::MeanOfTwoWeeks => "no reading: the mean of two earlier weeks",
-            Origin::MeanOfThreeWeeks => "no reading: the mean of three earlier weeks",
-            Origin::MeanOfFourWeeks => "no reading: the mean of four earlier weeks",
+            Origin::Measured => "measured: the quarter hour has a reading",
+            Origin::MeanOfOneWeek => "no reading: the reading of one earlier week",
+            Origin::MeanOfTwoWeeks => "no reading: the mean of the readings of two earlier weeks",
+            Origin::MeanOfThreeWeeks => "no reading: the mean of the readings of three earlier weeks",
+            Origin::MeanOfFourWeeks => "no reading: the mean of the readings of four earlier weeks",
             Origin::ZeroByStatus => "no reading: zero, since the point is not active",
             Origin::ZeroForLack => "no reading: zero, since none of the four earlier weeks has one",
         })

@@ -5,7 +5,7 @@ use second::calendar;
 use std::fmt;
 
 /// An entry that is shown: its number in the journal, from 0, and its magnitude.
-type Shown = (usize, u64);
+pub type Shown = (usize, u64);
 
 /// How often the values of accepted evaluations stand at an edge.
 #[derive(Default, PartialEq, Debug)]
