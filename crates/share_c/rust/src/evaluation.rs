@@ -37,8 +37,8 @@ pub struct PointResult {
 impl<'a> Evaluation<'a> {
     /// The result that stands at the front of a list: shares, remaining withdrawals, remaining supplies, origins.
     pub(crate) fn of(registration: Registration, rounds: usize, list: &'a [u64]) -> Evaluation<'a> {
-        // Only an accepted evaluation comes here: its registration keeps every rule, and all its numbers are in the list.
-        // What bears other ones, here and below, is there so that nothing can panic.
+        // Only an accepted evaluation comes here: its registration keeps every rule, and all its numbers stand in the list.
+        // Others are borne too, here, below and in `pairs`, only so that nothing can panic.
         let mut rest = list;
         let mut part = |count: usize| {
             let (part, later) = rest.split_at(count.min(rest.len()));
