@@ -1,5 +1,5 @@
--- What the code's inner functions work with: a number for each of 64 points, of their own quarter hour, and what a pass back through the journal
--- knows of a point's earlier weeks. Assumes nothing.
+-- What the code works with: a number for each of 64 points, of their own quarter hour; the values of all points; and what a pass back through the
+-- journal knows of a point's earlier weeks. Assumes nothing.
 use Prim.Native.Nat.{ℕ, zero, suc, _+_, _-_, _*_, _≤_, _<_}
 use mathlib.Core.Path.{_≡_}
 use mathlib.Core.Bool.{Bool, true, false, cond, _&&_, _||_}

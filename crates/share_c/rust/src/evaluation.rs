@@ -24,8 +24,8 @@ pub struct Share {
     pub share: u64,
 }
 
-/// What a result says of one point: its value, which is the supply of a producer and the withdrawal of a consumer, what
-/// remains of it after all shares, and where it came from.
+/// What a result says of one point: its value, as a magnitude, which is the supply of a producer and the withdrawal of a
+/// consumer; what remains of it after all shares; and where it came from.
 #[derive(Clone, Copy, PartialEq, Eq, Debug)]
 pub struct PointResult {
     pub code: u64,
