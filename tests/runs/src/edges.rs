@@ -70,19 +70,12 @@ impl Edges {
 
     /// All counts, one after another.
     pub fn counts(&self) -> Vec<u64> {
-        let Edges {
-            zeros_measured,
-            earlier_unused,
-            means_of_zeros,
-            alone,
-            with_oldest,
-        } = self;
         [
-            &zeros_measured[..],
-            earlier_unused,
-            means_of_zeros,
-            alone,
-            &[*with_oldest],
+            &self.zeros_measured[..],
+            &self.earlier_unused,
+            &self.means_of_zeros,
+            &self.alone,
+            &[self.with_oldest],
         ]
         .concat()
     }
