@@ -1,4 +1,6 @@
 // The published method: how much of each producer's supply every consumer receives in a quarter hour.
+#![tactic(auto)]
+
 ghost use Rattle.std.specs.Prelude.{◌≡◌, ◌≤◌, length, get_or};
 ghost use Rattle.values.specs.Values.{magnitude_most};
 ghost use Rattle.allocation.specs.Input.{Shareable, Magnitudes};

@@ -1,4 +1,6 @@
 // Prints the table of changeover days to standard output, one number to a line, right-justified in 6.
+#![tactic(auto)]
+
 ghost use Rattle.std.specs.Prelude.{◌≡◌, ◌+◌, ◌≤◌, ◌<◌, length};
 ghost use Rattle.lists.specs.Place.{Put};
 ghost use Rattle.calendar.specs.Changeovers.{changeover_count};

@@ -1,4 +1,6 @@
 // A number in a column of fixed width, read and written.
+#![tactic(auto)]
+
 ghost use Rattle.std.specs.Prelude.{◌≡◌, true, false, not, ◌&&◌, [], ◌∷◌, ◌+◌, ◌≤◌, ◌<◌, leb, eqb, length, get_or};
 ghost use Rattle.columns.specs.Column.{byte_before, column_of, signed_column_of, digit_of, value_from, same_bytes, has_minus, number_in, signed_in, space_byte, widest};
 ghost use Rattle.lists.specs.Place.{Put};

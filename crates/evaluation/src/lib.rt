@@ -1,5 +1,7 @@
 // The evaluation of a quarter hour as of a stamp: the points' values are looked up, their magnitudes are allocated, and allocation and origins are put
 // into a result list.
+#![tactic(auto)]
+
 ghost use Rattle.std.specs.Prelude.{◌≡◌, true, ◌*◌, ◌≤◌, length};
 ghost use Rattle.lists.specs.Place.{placed};
 ghost use Rattle.calendar.specs.Quarters.{quarter_exists};

@@ -1,4 +1,6 @@
 // The calls that events ask for: 9 for the date, then the call's own order, and the answer written to the front of a buffer.
+#![tactic(auto)]
+
 ghost use Rattle.std.specs.Prelude.{◌≡◌, ◌≤◌, length};
 ghost use Rattle.answers.specs.declared.Verdict.TheVariants.{Accepted as AcceptedCall};
 ghost use Rattle.answers.specs.Numbers.{number_of};

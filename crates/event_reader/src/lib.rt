@@ -1,4 +1,6 @@
 // The lines of events: M, a submission; C, a clear; E, an evaluation. Each line goes to the column reader for its letter.
+#![tactic(auto)]
+
 ghost use Rattle.std.specs.Prelude.{◌≡◌};
 ghost use Rattle.event_reader.specs.Events.{submission_in, clear_in, evaluation_in, event_in};
 

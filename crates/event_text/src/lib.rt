@@ -1,4 +1,6 @@
 // The input of program `share`: its registration, its lines, and the answer to each.
+#![tactic(auto)]
+
 ghost use Rattle.std.specs.Prelude.{◌≡◌, [], ◌∷◌, ◌≤◌, ◌<◌, length};
 ghost use Rattle.answers.specs.declared.Verdict.TheVariants.{Refused as RefusedFor};
 ghost use Rattle.answers.specs.Numbers.{number_of};

@@ -1,4 +1,6 @@
 // The lines of answers, written into a lent buffer: A and R with the answer of a call; S, U, V and W with the result of an evaluation.
+#![tactic(auto)]
+
 ghost use Rattle.std.specs.Prelude.{ℕ, ◌+◌, ◌*◌, ◌≤◌, ◌<◌, [], ◌∷◌, length};
 ghost use Rattle.lists.specs.Place.{Put};
 ghost use Rattle.registration.specs.Rules.{place_at, count_at};

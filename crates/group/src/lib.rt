@@ -1,4 +1,6 @@
 // A group as its registration, its numbers and a journal hold it: when it is damaged, and the tests of each call, in the order of its refusals.
+#![tactic(auto)]
+
 ghost use Rattle.std.specs.Prelude.{◌≡◌, ◌≤◌};
 ghost use Rattle.calendar.specs.Dates.{last_day};
 ghost use Rattle.group.specs.Held.{group_in};

@@ -1,4 +1,6 @@
 // The journal: a lent list of numbers, three an entry: stamp, place, and the magnitude that is stored.
+#![tactic(auto)]
+
 ghost use Rattle.std.specs.Prelude.{◌≡◌, ◌&&◌, ℕ, ◌+◌, ◌*◌, ◌/◌, ◌%◌, ◌≤◌, ◌<◌, length, leb, eqb};
 ghost use Rattle.lists.specs.Place.{placed};
 ghost use Rattle.calendar.specs.Dates.{last_day};

@@ -3,6 +3,8 @@
 // of a place is the one shown, and those met after it are superseded. Which keys were seen stands in a table of bits. A key is a place by its
 // quarter hour first and its point second, and a quarter hour has as many keys as the group has points: entries of some months lie in a window
 // or two, however many points there are, and the fewer there are the longer is the time that a window holds.
+#![tactic(auto)]
+
 ghost use Rattle.std.specs.Prelude.{◌≡◌, not, ◌&&◌, ◌+◌, ◌*◌, ◌<◌, ◌≤◌, length, replicate, eqb, leb};
 ghost use Rattle.journal.specs.Entries.{day_in};
 ghost use Rattle.journal.specs.Stored.{entries, entry_at};

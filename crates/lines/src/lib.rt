@@ -1,4 +1,6 @@
 // The lines of a text, and lines with a letter and two or three numbers in columns, read and written.
+#![tactic(auto)]
+
 ghost use Rattle.std.specs.Prelude.{◌≡◌, [], ◌∷◌, ◌+◌, ◌≤◌, length, drop};
 ghost use Rattle.columns.specs.Column.{widest};
 ghost use Rattle.columns.specs.Fields.{numbers_in};

@@ -1,5 +1,7 @@
 // The values of a group's points in a quarter hour as of a stamp, each with its origin: what each point's own quarter hour shows is gathered in one
 // pass over the journal; where there is no reading, the status or the earlier weeks decide on what stands in for it.
+#![tactic(auto)]
+
 ghost use Rattle.std.specs.Prelude.{◌≡◌, ◌*◌, ◌<◌, ◌≤◌, length};
 ghost use Rattle.values.specs.Values.{magnitude_most};
 ghost use Rattle.journal.specs.Entries.{point_places};

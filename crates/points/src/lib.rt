@@ -1,4 +1,6 @@
 // The points of a group by their codes, and the sign that suits each: withdrawals arrive as negative numbers, supplies as positive.
+#![tactic(auto)]
+
 ghost use Rattle.std.specs.Prelude.{◌≡◌, ◌≤◌, get_or};
 ghost use Rattle.lists.specs.Tables.{table};
 ghost use Rattle.points.specs.Points.{index_of, sign_suits};

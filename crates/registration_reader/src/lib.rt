@@ -1,4 +1,6 @@
 // Reads a registration from its text.
+#![tactic(auto)]
+
 ghost use Rattle.std.specs.Prelude.{◌≡◌};
 ghost use Rattle.registration_text.specs.Reader.{read_text};
 

@@ -1,4 +1,6 @@
 // Writes a registration's text.
+#![tactic(auto)]
+
 ghost use Rattle.registration_text.specs.Writer.{Wrote};
 
 use answers::{Refusal, Verdict};

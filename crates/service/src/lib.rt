@@ -1,4 +1,6 @@
 // The service of one group: measurements are submitted, old readings are cleared, quarter hours are evaluated as of any stamp from the kept one on.
+#![tactic(auto)]
+
 ghost use Rattle.std.specs.Prelude.{◌≡◌};
 ghost use Rattle.service.specs.Record.{zero_service, record_of, with_state};
 ghost use Rattle.service.specs.Promises.{fresh_of, Submits, Clears, Evaluates};

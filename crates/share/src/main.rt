@@ -1,4 +1,6 @@
 // Reads a registration and lines of events from standard input, and writes the answer to each line to standard output.
+#![tactic(auto)]
+
 ghost use Rattle.std.specs.Prelude.{◌≡◌};
 ghost use Rattle.answers.specs.declared.Verdict.TheVariants.{Accepted as AcceptedInput};
 ghost use Rattle.event_text.specs.Promises.{opened_of};

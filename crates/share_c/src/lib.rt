@@ -1,4 +1,6 @@
 // The static library: the calls of a service, the text of a registration, and days, dates and changeover days, for C and Rust. Answers are records of numbers, and no call asks anything of its arguments.
+#![tactic(auto)]
+
 ghost use Rattle.std.specs.Prelude.{◌≡◌};
 ghost use Rattle.calendar.specs.Dates.{day_of, date_of};
 ghost use Rattle.calendar.specs.Quarters.{quarters_of};

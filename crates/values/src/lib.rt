@@ -1,4 +1,6 @@
 // Values as they arrive, signed numbers, withdrawals below 0; and the measurements that bring them.
+#![tactic(auto)]
+
 ghost use Rattle.std.specs.Prelude.{◌≡◌, nat_abs};
 
 // What a submission brings: the code of a point, a day and its quarter, and the value, positive for a supply and negative for a withdrawal.

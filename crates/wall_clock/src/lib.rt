@@ -1,4 +1,6 @@
 // The wall-clock starts of a day's quarters: what the clock shows when a quarter begins, and which quarter begins when it shows a time.
+#![tactic(auto)]
+
 ghost use Rattle.std.specs.Prelude.{◌≡◌, true, ◌%◌, ◌≤◌, ◌<◌};
 ghost use Rattle.calendar.specs.Quarters.{quarter_exists};
 ghost use Rattle.wall_clock.specs.Starts.{short_start, long_start, quarter_start, first_in, first_at};
