@@ -17,7 +17,7 @@ pub const POINTS_ITERATED_MOST: usize = 50;
 
 // An allocation of a quarter hour in working arrays: what each pair received, at 5 × consumer + priority; what is left of each point,
 // producers first; and the round count. What stands at places of no pair and of no point is free.
-#[derive(Drop)]
+#[derive(Clone, Copy)]
 pub struct Allocated {
     pub shares: [u64; 320],
     pub left: [u64; 64],

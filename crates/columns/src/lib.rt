@@ -6,14 +6,14 @@ ghost use Rattle.columns.specs.Column.{byte_before, column_of, signed_column_of,
 ghost use Rattle.lists.specs.Place.{Put};
 
 // What stands in a column of a number.
-#[derive(Drop)]
+#[derive(Clone, Copy)]
 pub enum Number {
     Is(u64),
     Bad,
 }
 
 // What stands in a column of a signed value.
-#[derive(Drop)]
+#[derive(Clone, Copy)]
 pub enum Signed {
     Is(i64),
     Bad,

@@ -23,7 +23,7 @@ use registration::Registration;
 pub const RESULT_MOST: usize = 423;
 
 // Where the remaining withdrawals, the remaining supplies and the origins begin in a result, which begins with the shares, and how many numbers it has.
-#[derive(Drop)]
+#[derive(Clone, Copy)]
 pub struct Layout {
     pub withdrawals: usize,
     pub supplies: usize,

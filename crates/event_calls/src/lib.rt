@@ -21,7 +21,7 @@ pub const ANSWER_MOST: usize = 7844;
 
 // What answering an event gives: whether it was answered, which `reply` always does; the record's changing part after it, and how many bytes
 // were written.
-#[derive(Drop)]
+#[derive(Clone, Copy)]
 pub struct Answered {
     pub verdict: Verdict,
     pub state: State,

@@ -8,7 +8,7 @@ use columns::Signed;
 use lines::{Three, Two};
 
 // What a line asks for, with the date as it stands there.
-#[derive(Drop)]
+#[derive(Clone, Copy)]
 pub enum Event {
     Submission {
         clock: u64,

@@ -19,7 +19,7 @@ pub const INPUT_MOST: usize = 32768;
 pub const ANSWER_MOST: usize = event_calls::ANSWER_MOST;
 
 // What opening an input gives: a fresh service, and where the events begin; zeros where the registration is refused.
-#[derive(Drop)]
+#[derive(Clone, Copy)]
 pub struct Opened {
     pub verdict: Verdict,
     pub service: Service,

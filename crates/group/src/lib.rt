@@ -23,7 +23,7 @@ pub const DAYS_BEFORE: u64 = 28;
 
 // What is kept of a group beside its registration and its journal: kept stamp P, kept day K, and how many entries the journal has.
 #[repr(C)]
-#[derive(Drop)]
+#[derive(Clone, Copy)]
 pub struct Numbers {
     pub kept_stamp: u64,
     pub kept_day: u64,
@@ -32,7 +32,7 @@ pub struct Numbers {
 
 // What is looked up for a submission: whether it is a repeat, the stamp that it returns, and the place and the number of its entry; zeros where it is
 // refused.
-#[derive(Drop)]
+#[derive(Clone, Copy)]
 pub struct Looked {
     pub verdict: Verdict,
     pub repeat: bool,

@@ -18,7 +18,7 @@ pub const ENTRY: usize = 3;
 pub const POINT_PLACES: u64 = 100 * calendar::DAYS;
 
 // The reading shown for a place, by its stamp and the number stored, or none.
-#[derive(Drop)]
+#[derive(Clone, Copy)]
 pub enum Found {
     Shown(u64, u64),
     Nothing,

@@ -14,14 +14,14 @@ use columns::Number;
 pub const LINE_FEED: u8 = 10;
 
 // Two numbers, if both are in their columns.
-#[derive(Drop)]
+#[derive(Clone, Copy)]
 pub enum Two {
     Are(u64, u64),
     Bad,
 }
 
 // Three numbers, if all are in their columns.
-#[derive(Drop)]
+#[derive(Clone, Copy)]
 pub enum Three {
     Are(u64, u64, u64),
     Bad,

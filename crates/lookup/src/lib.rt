@@ -22,7 +22,7 @@ pub const ZERO_BY_STATUS: u64 = 5;
 pub const ZERO_FOR_LACK: u64 = 6;
 
 // The quarter hour that is evaluated, and the stamp as of which.
-#[derive(Drop)]
+#[derive(Clone, Copy)]
 pub struct Asked {
     pub day: u64,
     pub quarter: u64,
@@ -30,14 +30,14 @@ pub struct Asked {
 }
 
 // A point's value in a quarter hour: its magnitude, and its origin: one of the three above, or how many earlier weeks are in the mean, 1 to 4.
-#[derive(Drop)]
+#[derive(Clone, Copy)]
 pub struct PointValue {
     pub magnitude: u64,
     pub origin: u64,
 }
 
 // The values of a group's points, producers first; what stands at places of no point is free.
-#[derive(Drop)]
+#[derive(Clone, Copy)]
 pub struct PointValues {
     pub magnitudes: [u64; 64],
     pub origins: [u64; 64],

@@ -11,7 +11,7 @@ use super::Asked;
 
 // What a pass back through the journal knows of a point's earlier weeks: the place of each week that is sought, or NOWHERE once it has been met or where
 // it has no place; the sum of the magnitudes met, and how many they are.
-#[derive(Drop)]
+#[derive(Clone, Copy)]
 pub struct Weeks {
     pub first: u64,
     pub second: u64,

@@ -12,7 +12,7 @@ mod letters;
 mod reader;
 
 // The producers' numbers and the keys of an O line by priority, zeros after them and where they are not in their columns.
-#[derive(Drop)]
+#[derive(Clone, Copy)]
 pub struct Pairs {
     pub good: bool,
     pub sources: [u64; 5],
@@ -20,7 +20,7 @@ pub struct Pairs {
 }
 
 // A text that has been read up to a place.
-#[derive(Drop)]
+#[derive(Clone, Copy)]
 pub struct Progress {
     pub verdict: Verdict,
     pub registration: Registration,

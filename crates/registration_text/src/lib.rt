@@ -6,14 +6,14 @@ use answers::Verdict;
 use registration::Registration;
 
 // What reading a text gives: the registration, of zeros where it is refused.
-#[derive(Drop)]
+#[derive(Clone, Copy)]
 pub struct Answer {
     pub verdict: Verdict,
     pub registration: Registration,
 }
 
 // What writing a registration gives: how many bytes were written, 0 where it is refused.
-#[derive(Drop)]
+#[derive(Clone, Copy)]
 pub struct Written {
     pub verdict: Verdict,
     pub bytes: usize,

@@ -13,7 +13,7 @@ use registration::Registration;
 use registration_text::Written;
 
 // What the fixed part of a consumer's line says.
-#[derive(Drop)]
+#[derive(Clone, Copy)]
 pub struct Point {
     pub code: u64,
     pub status: u8,

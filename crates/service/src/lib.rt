@@ -12,7 +12,7 @@ use values::Measurement;
 
 // What changes of the record: the last stamp given, which is not the group's own, and the group's numbers.
 #[repr(C)]
-#[derive(Drop)]
+#[derive(Clone, Copy)]
 pub struct State {
     pub last: u64,
     pub numbers: Numbers,
@@ -20,49 +20,49 @@ pub struct State {
 
 // The record of a service.
 #[repr(C)]
-#[derive(Drop)]
+#[derive(Clone, Copy)]
 pub struct Service {
     pub registration: Registration,
     pub state: State,
 }
 
 // The answer of `fresh`: zeros where it is refused.
-#[derive(Drop)]
+#[derive(Clone, Copy)]
 pub struct Fresh {
     pub verdict: Verdict,
     pub service: Service,
 }
 
 // The answer of a submission: the stamp is 0 where it is refused.
-#[derive(Drop)]
+#[derive(Clone, Copy)]
 pub struct Submitted {
     pub verdict: Verdict,
     pub stamp: u64,
 }
 
 // The answer of a clear: how many entries it dropped, 0 where it is refused.
-#[derive(Drop)]
+#[derive(Clone, Copy)]
 pub struct Cleared {
     pub verdict: Verdict,
     pub dropped: usize,
 }
 
 // The answer of an evaluation: the round count, 0 where it is refused.
-#[derive(Drop)]
+#[derive(Clone, Copy)]
 pub struct Evaluated {
     pub verdict: Verdict,
     pub rounds: usize,
 }
 
 // What a submission leaves: last stamp and numbers, and the answer.
-#[derive(Drop)]
+#[derive(Clone, Copy)]
 pub struct SubmitStep {
     pub state: State,
     pub submitted: Submitted,
 }
 
 // What a clear leaves: last stamp and numbers, and the answer.
-#[derive(Drop)]
+#[derive(Clone, Copy)]
 pub struct ClearStep {
     pub state: State,
     pub cleared: Cleared,

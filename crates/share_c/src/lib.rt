@@ -16,7 +16,7 @@ use values::Measurement;
 
 // The answer of `share_read`: the registration, zeros where it is refused.
 #[repr(C)]
-#[derive(Drop)]
+#[derive(Clone, Copy)]
 pub struct Read {
     pub answer: u64,
     pub registration: Registration,
@@ -24,7 +24,7 @@ pub struct Read {
 
 // The answer of `share_write`: how many bytes were written.
 #[repr(C)]
-#[derive(Drop)]
+#[derive(Clone, Copy)]
 pub struct Written {
     pub answer: u64,
     pub bytes: usize,
@@ -32,7 +32,7 @@ pub struct Written {
 
 // The answer of `share_fresh`: the record, zeros where it is refused.
 #[repr(C)]
-#[derive(Drop)]
+#[derive(Clone, Copy)]
 pub struct Fresh {
     pub answer: u64,
     pub service: Service,
@@ -40,7 +40,7 @@ pub struct Fresh {
 
 // The answer of `share_submit`: the stamp of the reading.
 #[repr(C)]
-#[derive(Drop)]
+#[derive(Clone, Copy)]
 pub struct Submitted {
     pub answer: u64,
     pub stamp: u64,
@@ -48,7 +48,7 @@ pub struct Submitted {
 
 // The answer of `share_clear`: how many entries were dropped.
 #[repr(C)]
-#[derive(Drop)]
+#[derive(Clone, Copy)]
 pub struct Cleared {
     pub answer: u64,
     pub dropped: usize,
@@ -56,7 +56,7 @@ pub struct Cleared {
 
 // The answer of `share_evaluate`: the round count.
 #[repr(C)]
-#[derive(Drop)]
+#[derive(Clone, Copy)]
 pub struct Evaluated {
     pub answer: u64,
     pub rounds: usize,
@@ -64,21 +64,21 @@ pub struct Evaluated {
 
 // The answer of `share_day` and of `share_changeover`: the day's number.
 #[repr(C)]
-#[derive(Drop)]
+#[derive(Clone, Copy)]
 pub struct Dated {
     pub answer: u64,
     pub day: u64,
 }
 
 // A submission on a record by value: the record's changing part after it, and the answer.
-#[derive(Drop)]
+#[derive(Clone, Copy)]
 pub struct SubmitStep {
     pub state: State,
     pub submitted: Submitted,
 }
 
 // A clear on a record by value: the record's changing part after it, and the answer.
-#[derive(Drop)]
+#[derive(Clone, Copy)]
 pub struct ClearStep {
     pub state: State,
     pub cleared: Cleared,

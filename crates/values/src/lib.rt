@@ -5,7 +5,7 @@ ghost use Rattle.std.specs.Prelude.{◌≡◌, nat_abs};
 
 // What a submission brings: the code of a point, a day and its quarter, and the value, positive for a supply and negative for a withdrawal.
 #[repr(C)]
-#[derive(Drop)]
+#[derive(Clone, Copy)]
 pub struct Measurement {
     pub code: u64,
     pub day: u64,

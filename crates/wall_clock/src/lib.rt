@@ -6,7 +6,7 @@ ghost use Rattle.calendar.specs.Quarters.{quarter_exists};
 ghost use Rattle.wall_clock.specs.Starts.{short_start, long_start, quarter_start, first_in, first_at};
 
 // The letter of a start: A for the first of a doubled hour, B for the second, none for every other.
-#[derive(Drop)]
+#[derive(Clone, Copy)]
 pub enum Letter {
     Without,
     A,
@@ -14,14 +14,14 @@ pub enum Letter {
 }
 
 // The wall-clock start of a quarter: minutes from midnight, and a letter.
-#[derive(Drop)]
+#[derive(Clone, Copy)]
 pub struct Start {
     pub minutes: u64,
     pub letter: Letter,
 }
 
 // A quarter looked up by its start, or none where no quarter of the day starts then.
-#[derive(Drop)]
+#[derive(Clone, Copy)]
 pub enum Quarter {
     Is(u64),
     Missing,
