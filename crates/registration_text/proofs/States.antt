@@ -66,7 +66,7 @@ filled_pairs : (r : Registration) (consumer : ℕ) (source key : ℕ → ℕ) (p
     }
 unfolding with_pairs with_pair fills
 filled_pairs r consumer source key priority zero = refl
-filled_pairs r consumer source key priority (suc count) = filled_pairs _ consumer source key (suc priority) count
+filled_pairs r consumer source key priority (suc count) = filled_pairs (with_pair r (5 * consumer + priority) (source priority) (key priority)) consumer source key (suc priority) count
 
 module _ (r : Registration) (consumer : ℕ) (l : Said) where
   pub put_consumer : with_pairs (with_count (with_point r (r.producers + consumer) l.code l.status) consumer l.count) consumer l.source l.key 0 l.count

@@ -2,8 +2,7 @@
 use Rattle.std.proofs.Common.{◌≡◌, ℕ, ◌+◌, ◌%◌, ◌^◌, ◌<◌, ltb, leb, arith, w64, Fits, rules, ltb-false, ltb-true, le-ltb, lt-ltb, le-leb, leb-true}
 use Rattle.lists.proofs.Cases.{by_test}
 use Rattle.lookup.specs.Working.{nowhere, near_places, is_near}
-use Rattle.lookup.proofs.weeks.is_near.Statement.{statement}
-use Rattle.lookup.proofs.weeks.is_near.Tie as tie
+use Rattle.lookup.proofs.weeks.is_near.Goals as goal
 
 -- the difference, which wraps round at 2^64, is small just where the place is near
 near_by : (first place difference : ℕ) → first < nowhere → (difference + first) % 2 ^ 64 ≡ place → difference < 2 ^ 64
@@ -19,14 +18,8 @@ near_by first place difference h e l =
     (λ t. let k = leb-true first place t in rw (f, t, le-ltb place (first + near_places) (omega arith)))
     (λ n. rw (f, n)))
 
-wrapping-sub-u64-requires : tie.Need-wrapping-sub-u64-requires
-wrapping-sub-u64-requires c κs = search rules
-
-returns : tie.Need-returns
+pub returns : goal.returns
 returns c =
-    let difference = c.wrapping-sub-u64.result in
+    let difference = c.wrapping_sub_u64.result in
     let fits : Fits w64 difference = search rules in
-    near_by c.before.args.first c.before.args.place difference c.before.requires c.wrapping-sub-u64.ensures fits.fits
-
-pub is-near-spec : {M : Type 1} → statement M
-is-near-spec = tie.close (tie.spec wrapping-sub-u64-requires returns)
+    near_by c.args.first c.args.place difference c.requires c.wrapping_sub_u64.ensures.value fits.fits
