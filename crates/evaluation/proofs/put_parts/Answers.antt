@@ -7,17 +7,13 @@ use Rattle.allocation.proofs.Shareable.{few_points}
 use Rattle.evaluation.specs.Working.{result_in}
 use Rattle.evaluation.proofs.Parts.{same_places, lengths_in, parts_put}
 use Rattle.evaluation.proofs.put_parts.Goals as goal
-use Rattle.evaluation.proofs.put_parts.Goals.{Start, After-layout_of-layout}
+use Rattle.evaluation.proofs.put_parts.Goals.{Start}
 
-left-size : (c : Start) → length c.args.allocated.left ≡ 64
-left-size c = search rules
+left_size : (c : Start) → length c.args.allocated.left ≡ 64
+left_size c = search rules
 
 origins_size : (c : Start) → length c.args.values.origins ≡ 64
 origins_size c = search rules
-
--- the function's entry, from where the layout is known
-abbrev entry : After-layout_of-layout → Start
-entry layout = layout.before.before.before.before.before
 
 pub overflow_add-points : goal.overflow_add-points
 overflow_add-points c = omega (arith, few_points c.requires.0)
@@ -27,42 +23,38 @@ layout_of-layout-requires c = few_points c.requires.0
 
 pub put_shares-requires : goal.put_shares-requires
 put_shares-requires c =
-    let start = entry (goal.at.put_shares-requires c).After-layout_of-layout in
-    (start.pre.0, omega (arith, start.pre.1))
+    (c.requires.0, omega (arith, c.requires.1))
 
 pub slice_bounds-put_part-end : goal.slice_bounds-put_part-end
-slice_bounds-put_part-end c = sym (left-size (entry (goal.at.slice_bounds-put_part-end c).After-layout_of-layout))
+slice_bounds-put_part-end c = sym (left_size (goal.at.slice_bounds-put_part-end c).Start)
 
 pub put_part-requires : goal.put_part-requires
 put_part-requires c =
-    let start = entry (goal.at.put_part-requires c).After-layout_of-layout in
-    (omega (arith, left-size start, few_points start.pre.0), omega (arith, start.pre.1, c.layout_of-layout.ensures, c.put_shares.auto.0))
+    (omega (arith, left_size (goal.at.put_part-requires c).Start, few_points c.requires.0), omega (arith, c.requires.1, c.layout_of-layout.ensures, c.put_shares.auto.out))
 
 pub slice_bounds-put_part-end-2 : goal.slice_bounds-put_part-end-2
-slice_bounds-put_part-end-2 c = sym (left-size (entry (goal.at.slice_bounds-put_part-end-2 c).After-layout_of-layout))
+slice_bounds-put_part-end-2 c = sym (left_size (goal.at.slice_bounds-put_part-end-2 c).Start)
 
 pub put_part-requires-2 : goal.put_part-requires-2
 put_part-requires-2 c =
-    let start = entry (goal.at.put_part-requires-2 c).After-layout_of-layout in
-    (omega (arith, left-size start, few_points start.pre.0), omega (arith, start.pre.1, c.layout_of-layout.ensures, c.put_shares.auto.0, c.put_part.auto.0))
+    (omega (arith, left_size (goal.at.put_part-requires-2 c).Start, few_points c.requires.0), omega (arith, c.requires.1, c.layout_of-layout.ensures, c.put_shares.auto.out, c.put_part.auto.out))
 
 pub slice_bounds-put_part-end-3 : goal.slice_bounds-put_part-end-3
-slice_bounds-put_part-end-3 c = sym (origins_size (entry (goal.at.slice_bounds-put_part-end-3 c).After-layout_of-layout))
+slice_bounds-put_part-end-3 c = sym (origins_size (goal.at.slice_bounds-put_part-end-3 c).Start)
 
 pub put_part-requires-3 : goal.put_part-requires-3
 put_part-requires-3 c =
-    let start = entry (goal.at.put_part-requires-3 c).After-layout_of-layout in (
-      omega (arith, origins_size start, few_points start.pre.0),
-      omega (arith, start.pre.1, c.layout_of-layout.ensures, c.put_shares.auto.0, c.put_part.auto.0, c.put_part-2.auto.0),
+    (
+      omega (arith, origins_size (goal.at.put_part-requires-3 c).Start, few_points c.requires.0),
+      omega (arith, c.requires.1, c.layout_of-layout.ensures, c.put_shares.auto.out, c.put_part.auto.out, c.put_part-2.auto.out),
     )
 
 pub returns : goal.returns
 returns c =
-    let start = entry (goal.at.returns c).After-layout_of-layout in
-    let a = start.args in
+    let a = c.args in
     let laid = c.layout_of-layout.ensures in
     parts_put a.registration (result_in a.registration a.allocated a.values.origins) (lengths_in a.registration a.allocated a.values.origins)
-    a.out.now start.pre.1 laid.withdrawals laid.supplies laid.origins c.put_shares.ensures
+    a.out.now c.requires.1 laid.withdrawals laid.supplies laid.origins c.put_shares.ensures
     (same_places a.allocated.left _ _ _ (λ i. omega arith)) c.put_part.ensures
     (same_places a.allocated.left _ _ _ (λ i. omega arith)) c.put_part-2.ensures
     (same_places a.values.origins _ _ _ (λ i. omega arith)) c.put_part-3.ensures

@@ -10,11 +10,7 @@ use Rattle.registration.specs.Rules.{place_at}
 use Rattle.allocation.proofs.Pairs.{pairs_length}
 use Rattle.allocation.proofs.Shareable.{few_points, count_most}
 use Rattle.evaluation.proofs.put_shares.Goals as goal
-use Rattle.evaluation.proofs.put_shares.Goals.{In-loop-consumer-unread, In-loop-consumer}
 use Rattle.evaluation.proofs.put_shares.Invariants.{shares_of}
-
-one-of-64 : (c : In-loop-consumer) → c.loop-consumer.consumer < 64
-one-of-64 c = omega (arith, few_points c.requires.0, c.loop-consumer-test.true)
 
 pub loop-consumer-init : goal.loop-consumer-init
 loop-consumer-init c =
@@ -23,10 +19,10 @@ loop-consumer-init c =
     (omega (arith, c.requires.1, pairs_length a.registration (place_at a.shares.now)))
 
 pub bounds-counts-consumer : goal.bounds-counts-consumer
-bounds-counts-consumer c = one-of-64 (goal.at.bounds-counts-consumer c).In-loop-consumer-unread
+bounds-counts-consumer c = omega (arith, few_points c.requires.0, c.loop-consumer-test.true)
 
 pub overflow_mul-consumer : goal.overflow_mul-consumer
-overflow_mul-consumer c = omega (arith, one-of-64 (goal.at.overflow_mul-consumer c).In-loop-consumer)
+overflow_mul-consumer c = omega (arith, few_points c.requires.0, c.loop-consumer-test.true)
 
 pub put_part-at-requires : goal.put_part-at-requires
 put_part-at-requires c =
@@ -34,7 +30,7 @@ put_part-at-requires c =
     let few = count_most c.requires.0 c.loop-consumer.consumer c.loop-consumer-test.true in
     let whole : length a.shares.now ≡ 320 = search rules in
     let fits = next_fits c.loop-consumer.invariant c.loop-consumer-test.true in (
-      omega (arith, few, whole, one-of-64 (goal.at.put_part-at-requires c).In-loop-consumer),
+      omega (arith, few, whole, few_points c.requires.0, c.loop-consumer-test.true),
       omega (arith, fits, length_table (place_at a.shares.now c.loop-consumer.consumer) (get_or a.registration.counts c.loop-consumer.consumer 0)),
     )
 
