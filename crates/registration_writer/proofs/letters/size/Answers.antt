@@ -3,7 +3,6 @@ use borrow.Author.Rules.{rules}
 use native.Mathlib.Omega.{arith}
 use Prim.Native.Nat.{ℕ, ◌<◌}
 use mathlib.Core.Path.{◌≡◌, ◌∙◌}
-use mathlib.Core.List.{List}
 use mir.Syntax.{w8}
 use mir.Val.{Fits}
 use lib.ListN.{get_or}
@@ -12,11 +11,9 @@ use Rattle.registration_writer.proofs.Sizes.{length_o, length_text}
 use Rattle.registration_writer.proofs.letters.size.Goals as goal
 use Rattle.registration_writer.proofs.letters.size.Goals.{In-loop-consumer}
 
-abbrev counts_of : In-loop-consumer invariant-loop decreases-loop → List ℕ
-counts_of c = c.before.before.before.before.args.registration.counts
-
-byte : (c : In-loop-consumer invariant-loop decreases-loop) (i : ℕ) → get_or (counts_of c) i 0 < 256
-byte c i = let f : Fits w8 (get_or (counts_of c) i 0) = search rules in f.fits
+-- a count is a byte
+byte : (c : In-loop-consumer) (i : ℕ) → get_or c.args.registration.counts i 0 < 256
+byte c i = let f : Fits w8 (get_or c.args.registration.counts i 0) = search rules in f.fits
 
 pub loop-consumer-init : goal.loop-consumer-init
 loop-consumer-init c = (omega arith, omega (arith, sum_none (length_o c.args.registration.counts)))
@@ -30,10 +27,11 @@ overflow_add-bytes-in-loop-consumer c = omega (arith, byte (goal.at.overflow_add
 pub overflow_add-bytes-in-loop-consumer-2 : goal.overflow_add-bytes-in-loop-consumer-2
 overflow_add-bytes-in-loop-consumer-2 c =
     let i = c.loop-consumer.consumer in
-    omega (arith, byte (goal.at.overflow_add-bytes-in-loop-consumer-2 c).In-loop-consumer i, sum_bound (length_o (counts_of (goal.at.overflow_add-bytes-in-loop-consumer-2 c).In-loop-consumer)) 2575 i (λ k h. omega (arith, byte (goal.at.overflow_add-bytes-in-loop-consumer-2 c).In-loop-consumer k)))
+    let l = byte (goal.at.overflow_add-bytes-in-loop-consumer-2 c).In-loop-consumer in
+    omega (arith, l i, sum_bound (length_o c.args.registration.counts) 2575 i (λ k h. omega (arith, l k)))
 
 pub loop-consumer-preserved : goal.loop-consumer-preserved
-loop-consumer-preserved c = (omega arith, omega (arith, sum_next (length_o (counts_of (goal.at.loop-consumer-preserved c).In-loop-consumer)) c.loop-consumer.consumer))
+loop-consumer-preserved c = (omega arith, omega (arith, sum_next (length_o c.args.registration.counts) c.loop-consumer.consumer))
 
 pub returns : goal.returns
 returns c =

@@ -5,12 +5,12 @@ use Rattle.registration_writer.proofs.Sizes.{lines__o, length__o}
 use Rattle.registration_writer.proofs.letters.write_consumers.Goals as goal
 
 pub loop-consumer-init : goal.loop-consumer-init
-loop-consumer-init c = no_pieces (rw lines__o at c.requires.1.1)
+loop-consumer-init c = no_pieces (rw lines__o at c.requires.consumers_in_bounds)
 
 pub write_consumer-at-requires : goal.write_consumer-at-requires
 write_consumer-at-requires c =
     let at = c.loop-consumer in
-    let few = c.requires.1.0 at.consumer c.loop-consumer-test.true in
+    let few = c.requires.by_index at.consumer c.loop-consumer-test.true in
     let fits = next_fits at.invariant c.loop-consumer-test.true in
     (omega arith, few, rw (length__o c.args.registration) at fits)
 

@@ -9,14 +9,14 @@ abbrev pub invariant-loop-consumer : goal.invariant-loop-consumer
 invariant-loop-consumer l =
     let r : Registration =
     record {
-      l.producers = l.producers;
-      l.consumers = l.consumers;
+      producers = l.producers;
+      consumers = l.consumers;
       iteration = 0;
-      l.codes = l.codes;
-      l.statuses = l.statuses;
-      l.counts = l.counts;
-      l.sources = l.sources;
-      l.keys = l.keys;
+      codes = l.codes;
+      statuses = l.statuses;
+      counts = l.counts;
+      sources = l.sources;
+      keys = l.keys;
     } in
     Pieces (line_o r) l.consumers l.start l.consumer l.initial.out l.out l.at
 

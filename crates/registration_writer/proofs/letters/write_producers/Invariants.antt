@@ -9,7 +9,7 @@ use Rattle.registration_writer.proofs.letters.write_producers.Given as goal
 abbrev pub invariant-loop-producer : goal.invariant-loop-producer
 invariant-loop-producer l =
     let r : Registration =
-    record { l.producers = l.producers; consumers = 0; iteration = 0; l.codes = l.codes; l.statuses = l.statuses; counts = []; sources = []; keys = [] } in
+    record { producers = l.producers; consumers = 0; iteration = 0; codes = l.codes; statuses = l.statuses; counts = []; sources = []; keys = [] } in
     Pieces (line_d r) l.producers l.start l.producer l.initial.out l.out l.at
 
 abbrev pub decreases-loop-producer : goal.decreases-loop-producer
