@@ -48,9 +48,9 @@ related_fresh r room h =
     record {
       sound = record {
         registered = h;
-        kept_stamp_lem = omega arith;
+        kept_stamp = omega arith;
         last_stamp = omega arith;
-        kept_day_lem = omega arith;
+        kept_day = omega arith;
         fits = omega arith;
         right = refl;
       };

@@ -34,7 +34,7 @@ module _ (last : ℕ) (G : Group) (clock : ℕ) (m : Measurement) (page : Page) 
         day_most = exists_day m.day m.quarter a.exists;
         from = q.0;
         to = q.1;
-        stamp = rel.sound.kept_stamp_lem;
+        stamp = rel.sound.kept_stamp;
       })
       ∙ newest_shown last G page rel m
 

@@ -15,9 +15,9 @@ use Rattle.group.specs.Stamps.{stamp_most}
 -- each part of what is not damaged
 pub record Sound (last : ℕ) (G : Group) : Type 0 where
   pub registered : is_damaged G.registration ≡ false
-  pub kept_stamp_lem : G.keptstamp ≤ last
+  pub kept_stamp : G.keptstamp ≤ last
   pub last_stamp : last ≤ stamp_most
-  pub kept_day_lem : G.keptday ≤ last_day
+  pub kept_day : G.keptday ≤ last_day
   pub fits : 3 * length G.entries ≤ G.room
   pub right : entries_right (length (roll_of G)) G.keptday last 0 G.entries ≡ true
 
@@ -27,9 +27,9 @@ unfolding damaged
 undamaged last G k =
     rw (
       k.registered,
-      le-ltb last G.keptstamp k.kept_stamp_lem,
+      le-ltb last G.keptstamp k.kept_stamp,
       le-ltb stamp_most last k.last_stamp,
-      le-ltb last_day G.keptday k.kept_day_lem,
+      le-ltb last_day G.keptday k.kept_day,
       le-ltb G.room (3 * length G.entries) k.fits,
       k.right,
     )
@@ -53,9 +53,9 @@ undamaged_sound last G h =
     (ltb G.room (3 * length G.entries)) (entries_right (length (roll_of G)) G.keptday last 0 G.entries) h in
     record {
       registered = k.0;
-      kept_stamp_lem = ltb-false last G.keptstamp k.1;
+      kept_stamp = ltb-false last G.keptstamp k.1;
       last_stamp = ltb-false stamp_most last k.2;
-      kept_day_lem = ltb-false last_day G.keptday k.3;
+      kept_day = ltb-false last_day G.keptday k.3;
       fits = ltb-false G.room (3 * length G.entries) k.4;
       right = k.5;
     }

@@ -59,9 +59,9 @@ module _ (last : ℕ) (G : Group) (clock : ℕ) (m : Measurement) (a : Admitted 
       let r = a.sound in
       record {
         registered = r.registered;
-        kept_stamp_lem = omega (arith, r.kept_stamp_lem);
+        kept_stamp = omega (arith, r.kept_stamp);
         last_stamp = omega (arith, a.last_less, a.clock_small, r.last_stamp);
-        kept_day_lem = r.kept_day_lem;
+        kept_day = r.kept_day;
         fits = omega (arith, length-append G.entries (new ∷ []));
         right = right_snoc (length (roll_of G)) G.keptday last new (omega arith) entry_right_lem 0 (omega arith) G.entries r.right;
       }
@@ -78,9 +78,9 @@ sound_less last G day stamp a =
     let r = a.sound in
     record {
       registered = r.registered;
-      kept_stamp_lem = a.to;
+      kept_stamp = a.to;
       last_stamp = r.last_stamp;
-      kept_day_lem = a.day_most;
+      kept_day = a.day_most;
       fits = omega (arith, length_keep day stamp G.entries, r.fits);
       right = right_those (length (roll_of G)) G.keptday last day (kept day stamp G.entries)
           (λ e t. leb-true day (day_in e.place) (and_left (leb day (day_in e.place))
