@@ -39,8 +39,9 @@ pub pairs_placed_same : (r : Registration) (consumer : ℕ) (source source' key 
 unfolding with_pairs
 pairs_placed_same r consumer source source' key key' priority zero s k = refl
 pairs_placed_same r consumer source source' key key' priority (suc count) s k =
+    let next = with_pair r (5 * consumer + priority) (source' priority) (key' priority) in
     rw (s priority (omega arith), k priority (omega arith))
-    (pairs_placed_same _ consumer source source' key key' (suc priority) count (λ i h. s i (omega arith)) (λ i h. k i (omega arith)))
+    (pairs_placed_same next consumer source source' key key' (suc priority) count (λ i h. s i (omega arith)) (λ i h. k i (omega arith)))
 
 -- the counts of points stay
 module _ (consumer : ℕ) (source key : ℕ → ℕ) where

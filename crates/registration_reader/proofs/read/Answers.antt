@@ -5,40 +5,33 @@ use mathlib.Core.List.{List}
 use native.Mathlib.Omega.{arith}
 use lib.ListN.{drop}
 use lib.Seq.{length-take-le}
-use Rattle.registration_text.specs.Reader.{going, answered, verdict_of_all, read_g, read_d}
+use Rattle.registration_text.specs.Reader.{going, answered, verdict_of_all, read_g}
 use Rattle.lines.proofs.Parts.{tail_part}
 use Rattle.lines.proofs.Laws.{end_within}
 use Rattle.registration_reader.proofs.Whole.{group_stops, group_goes, group_within, reached_stops, reached_goes, stops_first, stops_second, stops_third, goes_on}
 use Rattle.registration_reader.proofs.read.Goals as goal
-use Rattle.registration_reader.proofs.read.Goals.{In_default, In_default-verdict}
+use Rattle.registration_reader.proofs.read.Goals.{In_default}
 
 -- the G line is accepted: its counts are within bounds, and the reading goes on after it
 within : (c : In_default) → let r = c.read_group-group.result.registration in r.producers + r.consumers ≤ 64
 within c =
-    group_within _ _ c.line-end.ensures _ c.read_group-group.ensures c.in_default.is
+    group_within _ _ c.line_end-end.ensures _ c.read_group-group.ensures c.in_default.is
 
 begun : (c : In_default) → let text = c.args.text.now in
-    read_g text ≡ going c.read_group-group.result.registration (drop c.line-end.result text)
+    read_g text ≡ going c.read_group-group.result.registration (drop c.line_end-end.result text)
 begun c =
-    group_goes _ _ c.line-end.ensures _ c.read_group-group.ensures c.in_default.is
-
--- the producers' lines are accepted
-supplied : (c : In_default-verdict) → let r = c.read_group-group.result.registration in
-    let text = lines.before.before.before.before.before.before.before.before.args.text.now in
-    read_d 0 r.producers r (drop lines.before.before.before.before.before.before.line-end.result text)
-    ≡ going lines.read-producers.result.registration (drop lines.read-producers.result.at text)
-supplied c = reached_goes c.read_producers-producers.ensures c.in_default-verdict.is
+    group_goes _ _ c.line_end-end.ensures _ c.read_group-group.ensures c.in_default.is
 
 pub slice_bounds-read_group-end : goal.slice_bounds-read_group-end
-slice_bounds-read_group-end c = sym (length-take-le _ _ (end_within _ 0 _ c.line-end.ensures (omega arith)))
+slice_bounds-read_group-end c = sym (length-take-le _ _ (end_within _ 0 _ c.line_end-end.ensures (omega arith)))
 
 pub returns-in-Refused : goal.returns-in-Refused
 returns-in-Refused c =
     c.refused.ensures
-    ∙ stops_first _ _ (group_stops _ _ c.line-end.ensures _ c.read_group-group.ensures _ c.in-Refused.is)
+    ∙ stops_first _ _ (group_stops _ _ c.line_end-end.ensures _ c.read_group-group.ensures _ c.in-Refused.is)
 
 pub read_producers-producers-requires : goal.read_producers-producers-requires
-read_producers-producers-requires c = (end_within _ 0 _ c.line-end.ensures (omega arith), omega (arith, within (goal.at.read_producers-producers-requires c).In_default))
+read_producers-producers-requires c = (end_within _ 0 _ c.line_end-end.ensures (omega arith), omega (arith, within (goal.at.read_producers-producers-requires c).In_default))
 
 pub returns-in-Refused-verdict : goal.returns-in-Refused-verdict
 returns-in-Refused-verdict c =
@@ -52,8 +45,9 @@ read_consumers-consumers-requires c =
 
 pub returns-in-Refused-verdict-2 : goal.returns-in-Refused-verdict-2
 returns-in-Refused-verdict-2 c =
+    let supplied = reached_goes c.read_producers-producers.ensures c.in_default-verdict.is in
     c.refused-in-Refused-verdict-2.ensures
-    ∙ stops_third _ _ _ (begun (goal.at.returns-in-Refused-verdict-2 c).In_default) _ _ (supplied (goal.at.returns-in-Refused-verdict-2 c).In_default-verdict) _ (reached_stops c.read_consumers-consumers.ensures _ c.in-Refused-verdict-2.is)
+    ∙ stops_third _ _ _ (begun (goal.at.returns-in-Refused-verdict-2 c).In_default) _ _ supplied _ (reached_stops c.read_consumers-consumers.ensures _ c.in-Refused-verdict-2.is)
 
 pub judged-requires : goal.judged-requires
 judged-requires c =
@@ -64,6 +58,7 @@ pub returns : goal.returns
 returns c =
     let p = c.read_consumers-consumers.result in
     let text = c.args.text.now in
+    let supplied = reached_goes c.read_producers-producers.ensures c.in_default-verdict.is in
     c.judged.ensures
     ∙ ap (λ (left : List ℕ). answered (verdict_of_all p.registration left) p.registration) (tail_part text p.at)
-    ∙ goes_on text _ _ (begun (goal.at.returns c).In_default) _ _ (supplied (goal.at.returns c).In_default-verdict) _ _ (reached_goes c.read_consumers-consumers.ensures c.in_default-verdict-2.is)
+    ∙ goes_on text _ _ (begun (goal.at.returns c).In_default) _ _ supplied _ _ (reached_goes c.read_consumers-consumers.ensures c.in_default-verdict-2.is)

@@ -20,13 +20,12 @@ returns-in_default-read_number c =
     ∙ left_bad_key _ _ _ _ _ _ c.loop-priority-test.true _ (sym c.in-Is.is ∙ c.read_number.ensures) (sym c.in_default-read_number.is ∙ c.read_number-in-loop-priority.ensures))
 
 pub loop-priority-preserved : goal.loop-priority-preserved
-loop-priority-preserved c =
-    (
-      omega arith,
-      omega arith,
-      c.loop-priority.invariant.2
-          ∙ left_next _ _ _ _ _ _ c.loop-priority-test.true _ (sym c.in-Is.is ∙ c.read_number.ensures) _ (sym c.in-Is-read_number.is ∙ c.read_number-in-loop-priority.ensures),
-    )
+loop-priority-preserved c = (
+  omega arith,
+  omega arith,
+  c.loop-priority.invariant.2
+      ∙ left_next _ _ _ _ _ _ c.loop-priority-test.true _ (sym c.in-Is.is ∙ c.read_number.ensures) _ (sym c.in-Is-read_number.is ∙ c.read_number-in-loop-priority.ensures),
+)
 
 pub returns : goal.returns
 returns c = sym (c.loop-priority.invariant.2 ∙ left_none _ _ _ _ _ _ c.loop-priority-test.false)

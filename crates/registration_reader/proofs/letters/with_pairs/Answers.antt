@@ -12,10 +12,10 @@ pub loop-priority-init : goal.loop-priority-init
 loop-priority-init c = (search rules, rw sub-zero)
 
 pub overflow_cast-next-in-loop-priority : goal.overflow_cast-next-in-loop-priority
-overflow_cast-next-in-loop-priority c = record { fits = (c.requires.1 _ c.loop-priority-test.true).0 }
+overflow_cast-next-in-loop-priority c = record { fits = (c.requires.by_index _ c.loop-priority-test.true).0 }
 
 pub overflow_cast-next-in-loop-priority-2 : goal.overflow_cast-next-in-loop-priority-2
-overflow_cast-next-in-loop-priority-2 c = record { fits = (c.requires.1 _ c.loop-priority-test.true).1 }
+overflow_cast-next-in-loop-priority-2 c = record { fits = (c.requires.by_index _ c.loop-priority-test.true).1 }
 
 pub loop-priority-preserved : goal.loop-priority-preserved
 unfolding with_pair
