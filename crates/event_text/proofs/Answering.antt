@@ -18,26 +18,19 @@ use Rattle.event_calls.specs.Promises.{answer_most, Replies}
 use Rattle.event_text.specs.Promises.{room_verdict, Answers}
 use Rattle.event_text.proofs.Fitting.{answer_within}
 
--- a line was answered, and the answer lies within the buffer
-abbrev pub Done : Service → (journal line buffer : List ℕ) → Answered → (journal' buffer' : List ℕ) → Type 0
-Done s j line buffer answered j' buffer' = Answers s j line buffer answered j' buffer' × (answered.bytes ≤ length buffer')
-
 module _ (s : Service) (j line buffer : List ℕ) where
-  refused_whole : length buffer < answer_most → Answers s j line buffer (record { verdict = Refused TooShort; state = s.state; bytes = 0 }) j buffer
+  pub no_room : length buffer < answer_most → Answers s j line buffer (record { verdict = Refused TooShort; state = s.state; bytes = 0 }) j buffer
   unfolding room_verdict refuse◌if◌else◌ placed
-  refused_whole h =
+  no_room h =
       rw (lt-ltb (length buffer) answer_most h)
       (record { verdict = refl; service = refl; journal = refl; bytes = refl; out = refl })
 
-  pub no_room : length buffer < answer_most → Done s j line buffer (record { verdict = Refused TooShort; state = s.state; bytes = 0 }) j buffer
-  no_room h = (refused_whole h, omega arith)
-
   module _ (h : answer_most ≤ length buffer) (answered : Answered) (j' buffer' : List ℕ) where
-    replied : (event : Event) → event ≡ event_in line → Replies Accepted (reply_of s j event) s buffer answered j' buffer'
+    pub by_event : (event : Event) → event ≡ event_in line → Replies Accepted (reply_of s j event) s buffer answered j' buffer'
         → Answers s j line buffer answered j' buffer'
     unfolding room_verdict refuse◌if◌else◌ reply_to
-    replied event e p = rw (le-ltb (length buffer) answer_most h, ← e) p
+    by_event event e p = rw (le-ltb (length buffer) answer_most h, ← e) p
 
-    pub by_event : (event : Event) → event ≡ event_in line → Replies Accepted (reply_of s j event) s buffer answered j' buffer'
-        → Done s j line buffer answered j' buffer'
-    by_event event e p = (replied event e p, answer_within s j line buffer answered j' buffer' (replied event e p))
+    -- and the answer lies within the buffer
+    pub within_buffer : (event : Event) → event ≡ event_in line → Replies Accepted (reply_of s j event) s buffer answered j' buffer' → answered.bytes ≤ length buffer'
+    within_buffer event e p = answer_within s j line buffer answered j' buffer' (by_event event e p)
