@@ -6,7 +6,8 @@ ghost use Rattle.lists.specs.Place.{Put};
 ghost use Rattle.calendar.specs.Changeovers.{changeover_count};
 ghost use Rattle.changeovers.specs.Text.{line_bytes, changeover_line, text_bytes, changeover_text};
 
-use libc::STDOUT_FILENO;
+use std::io;
+use std::io::Write;
 
 // The width of a line's column.
 const WIDTH: usize = 6;
@@ -37,8 +38,8 @@ fn put_lines(out: &mut [u8])
     }
 }
 
-fn main() {
+fn main(rt: HostRuntime) -> io::Result<()> {
     let mut out = [0; TEXT_BYTES];
     put_lines(&mut out);
-    io::write_all(STDOUT_FILENO, &out);
+    rt.stdout().write_all(&out)
 }
