@@ -6,7 +6,7 @@ use mathlib.Core.List.{List}
 use lib.ListN.{length}
 use Rattle.answers.specs.declared.Verdict.{Verdict}
 use Rattle.answers.specs.declared.Verdict.TheVariants.{Accepted, Refused}
-use Rattle.journal.specs.Stored.{entries, written}
+use Rattle.journal.specs.Stored.{written}
 use Rattle.journal.proofs.Stored.{entries_written, length_entries, length_written}
 use Rattle.service.specs.declared.Service.{Service}
 use Rattle.service.specs.Call.{Call, After}

@@ -1,5 +1,5 @@
 -- What the wall-clock starts promise: by numbers of quarters, that start and letter tell the quarter, and which quarter is found by a time. Assumes nothing.
-use Prim.Native.Nat.{ℕ, ◌*◌, ◌%◌, ◌≤◌, ◌<◌}
+use Prim.Native.Nat.{ℕ, ◌≤◌}
 use mathlib.Core.Path.{◌≡◌, sym, ap, subst, ◌∙◌}
 use native.Mathlib.Omega.{arith}
 use lib.Dec.{leb, eqb}

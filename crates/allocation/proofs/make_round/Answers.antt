@@ -13,7 +13,7 @@ use Rattle.values.specs.Values.{magnitude_most}
 use Rattle.allocation.specs.Input.{Shareable, Magnitudes}
 use Rattle.allocation.specs.Working.{PairsWithin}
 use Rattle.allocation.proofs.Shareable.{few_points, count_most, pair_of}
-use Rattle.allocation.proofs.Turns.{passed_at, passed_none, passed_here, passed_other, passed_most, passed_turn, offer_small, share_for, fallen_same, fallen_none, fallen_turn, fallen_all, left_none, share_here, left_here, Step, fallen_next, share_within, given_none, given_next, given_all, own_none, own_next}
+use Rattle.allocation.proofs.Turns.{passed_at, passed_none, passed_here, passed_other, passed_most, passed_turn, offer_small, fallen_same, fallen_none, fallen_turn, fallen_all, left_none, share_here, left_here, Step, fallen_next, share_within, given_none, given_next, given_all, own_none, own_next}
 use Rattle.allocation.proofs.ArrayRound.{taken_within, round_made}
 use Rattle.allocation.proofs.make_round.Goals as goal
 
@@ -51,12 +51,11 @@ module _ (r : Registration) (start shares : List ℕ) (consumer priority : ℕ)
       }
 
 pub loop-consumer-init : goal.loop-consumer-init
-loop-consumer-init c =
-    (
-      omega arith,
-      fallen_same _ _ _ _ _ _ (fallen_none _ _ _ _ _ _ (search rules)) (λ k h. passed_none c.args.registration.counts k),
-      given_none _ _ _ _ _ _ _,
-    )
+loop-consumer-init c = (
+  omega arith,
+  fallen_same _ _ _ _ _ _ (fallen_none _ _ _ _ _ _ (search rules)) (λ k h. passed_none c.args.registration.counts k),
+  given_none _ _ _ _ _ _ _,
+)
 
 pub overflow_add-point : goal.overflow_add-point
 overflow_add-point c = omega (arith, few_points c.requires.0, c.loop-consumer-test.true)

@@ -43,11 +43,10 @@ pub slice_bounds-put_part-end-3 : goal.slice_bounds-put_part-end-3
 slice_bounds-put_part-end-3 c = sym (origins_size (goal.at.slice_bounds-put_part-end-3 c).Start)
 
 pub put_part-requires-3 : goal.put_part-requires-3
-put_part-requires-3 c =
-    (
-      omega (arith, origins_size (goal.at.put_part-requires-3 c).Start, few_points c.requires.0),
-      omega (arith, c.requires.1, c.layout_of-layout.ensures, c.put_shares.auto.out, c.put_part.auto.out, c.put_part-2.auto.out),
-    )
+put_part-requires-3 c = (
+  omega (arith, origins_size (goal.at.put_part-requires-3 c).Start, few_points c.requires.0),
+  omega (arith, c.requires.1, c.layout_of-layout.ensures, c.put_shares.auto.out, c.put_part.auto.out, c.put_part-2.auto.out),
+)
 
 pub returns : goal.returns
 returns c =

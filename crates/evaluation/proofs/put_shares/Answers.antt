@@ -1,7 +1,6 @@
 -- `evaluation::put_shares` meets its contract: the shares of the consumers passed have been put. Assumes nothing.
 use borrow.Author.Rules.{rules}
 use native.Mathlib.Omega.{arith}
-use Prim.Native.Nat.{◌<◌}
 use mathlib.Core.Path.{◌≡◌}
 use lib.ListN.{length, get_or}
 use Rattle.lists.proofs.Pieces.{no_pieces, next_fits, one_more, all_put}

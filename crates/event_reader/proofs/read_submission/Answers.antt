@@ -1,16 +1,12 @@
 -- `event_reader::read_submission` meets its contract: each way out by `Parts.antt`. Assumes nothing.
-use Prim.Native.Nat.{◌-◌}
 use mathlib.Core.Path.{◌≡◌, refl, sym, ap, ◌∙◌}
 use mathlib.Core.Bool.{true}
-use mathlib.Core.List.{[], ◌∷◌}
-use mathlib.Core.Option.{some}
 use native.Mathlib.Omega.{arith}
 use borrow.Author.Rules.{rules}
 use borrow.Author.Tests.{not-true, not-false}
 use mir.Syntax.{w64}
 use mir.ValLaws.{to_z-of_z}
-use lib.ListN.{length, take, drop, length-drop}
-use Rattle.columns.specs.Fields.{numbers_in}
+use lib.ListN.{length, length-drop}
 use Rattle.lines.specs.Lines.{is_framed, two_of}
 use Rattle.lines.proofs.Parts.{framed_length, tail_part}
 use Rattle.event_reader.specs.Events.{letter_m}

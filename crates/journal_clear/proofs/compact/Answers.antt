@@ -1,7 +1,6 @@
 -- `journal_clear::compact` meets its contract. The invariant: `Moving` of `Moves`. Assumes nothing.
 use borrow.Author.Rules.{rules}
 use native.Mathlib.Omega.{arith}
-use mathlib.Core.Logic.{⊎_elim}
 use mathlib.Core.Path.{sym, ap, ◌∙◌}
 use lib.ListN.{length}
 use Rattle.journal_clear.proofs.Moves.{start, finish, passed_over, moved_one}
@@ -15,8 +14,8 @@ pub loop-i-preserved : goal.loop-i-preserved
 loop-i-preserved c =
     let said = sym c.left.ensures in
     elim c.if-left.branch [
-      then-left w ↦ moved_one _ _ _ _ _ _ _ _ c.loop-i.invariant (omega arith) (said ∙ w.if-left.true) (ap length w.journal-is ∙ w.put.auto.journal) (w.journal-is ∙ w.put.ensures) w.moved-is
-    | else-left w ↦ passed_over _ _ _ _ _ _ _ _ c.loop-i.invariant (omega arith) (said ∙ w.if-left.false) w.journal-is w.moved-is
+      | then-left w ↦ moved_one _ _ _ _ _ _ _ _ c.loop-i.invariant (omega arith) (said ∙ w.if-left.true) (ap length w.journal-is ∙ w.put.auto.journal) (w.journal-is ∙ w.put.ensures) w.moved-is
+      | else-left w ↦ passed_over _ _ _ _ _ _ _ _ c.loop-i.invariant (omega arith) (said ∙ w.if-left.false) w.journal-is w.moved-is
     ]
 
 pub returns : goal.returns

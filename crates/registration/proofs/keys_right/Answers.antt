@@ -1,7 +1,5 @@
 -- `registration::keys_right` meets its contract: the first loop adds up the keys by number, the second looks at each producer's sum. Assumes nothing.
 use mathlib.Core.Path.{subst}
-use mathlib.Core.Bool.{true}
-use mathlib.Core.Logic.{⊎_elim}
 use Rattle.lists.proofs.Below.{every_none, every_next, every_stop, every_done}
 use Rattle.registration.proofs.Keys.{Summed, summed_none, summed_turn, summed_unused, keys_above, keys_within_lem}
 use native.Mathlib.Omega.{arith}
@@ -20,8 +18,8 @@ loop-place-preserved c =
     let number = c.byte_number-number.ensures in (
       omega arith,
       elim c.if-number-gt0.branch [
-        then-number-gt0 w ↦ let key = w.two_byte_number-key.ensures in rw w.sums-is (summed_turn _ _ _ _ _ _ at.invariant.1 number.1 key.1 number.0 key.0)
-      | else-number-gt0 w ↦ rw w.sums-is (summed_unused _ _ _ _ at.invariant.1 (omega (arith, number.0)))
+        | then-number-gt0 w ↦ let key = w.two_byte_number-key.ensures in rw w.sums-is (summed_turn _ _ _ _ _ _ at.invariant.1 number.1 key.1 number.0 key.0)
+        | else-number-gt0 w ↦ rw w.sums-is (summed_unused _ _ _ _ at.invariant.1 (omega (arith, number.0)))
       ],
     )
 

@@ -1,8 +1,6 @@
 -- `registration::pairs_right` meets its contract: every producer named before this priority is right. Assumes nothing.
 use mathlib.Core.Path.{sym, ◌∙◌}
 use borrow.Author.Tests.{not-true, not-false}
-use Rattle.lists.specs.Below.{differ}
-use Rattle.registration.specs.Rules.{pair_right}
 use Rattle.lists.proofs.Below.{every_none, every_next}
 use Rattle.registration.proofs.Places.{pairs_stop, pairs_done}
 use native.Mathlib.Omega.{arith}

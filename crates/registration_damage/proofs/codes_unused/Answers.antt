@@ -1,5 +1,4 @@
 -- `registration_damage::codes_unused` meets its contract: every code from n on and before this place is 0. Assumes nothing.
-use mathlib.Core.Bool.{true}
 use borrow.Author.Tests.{eq-eqb, ne_eqb}
 use Rattle.lists.proofs.Below.{every_done, from_begin, from_stop, from_next}
 use native.Mathlib.Omega.{arith}

@@ -3,7 +3,6 @@ use Prim.Native.Nat.{◌+◌, ◌≤◌}
 use mathlib.Core.Path.{◌≡◌, sym, ◌∙◌}
 use lib.ListN.{length}
 use borrow.Author.Tests.{not-true, not-false}
-use Rattle.lists.specs.Below.{differ}
 use Rattle.registration.proofs.Damage.{parts_undamaged, damaged_by, clash, point_bounds}
 use borrow.Author.Rules.{rules}
 use native.Mathlib.Omega.{arith}

@@ -1,7 +1,6 @@
 -- `registration_damage::pairs_unused` meets its contract: every consumer before this one has zeros in its unused places. Assumes nothing.
 use mathlib.Core.Path.{sym, ◌∙◌}
 use borrow.Author.Tests.{not-true, not-false}
-use Rattle.registration.specs.Damage.{places_unused}
 use Rattle.lists.proofs.Below.{every_none, every_next, every_stop, every_done}
 use native.Mathlib.Omega.{arith}
 use Rattle.registration_damage.proofs.pairs_unused.Goals as goal

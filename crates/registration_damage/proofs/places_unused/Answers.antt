@@ -1,5 +1,4 @@
 -- `registration_damage::places_unused` meets its contract: every place of the consumer after those that it uses and before this one holds zeros. Assumes nothing.
-use mathlib.Core.Bool.{true}
 use borrow.Author.Tests.{eq-eqb, ne_eqb}
 use Rattle.lists.proofs.Below.{every_done, from_begin, from_stop, from_next, and_both}
 use native.Mathlib.Omega.{arith}

@@ -1,5 +1,4 @@
 -- `registration_damage::statuses_right` meets its contract: the loop has found every status before this point to be one of the four. Assumes nothing.
-use mathlib.Core.Bool.{true}
 use borrow.Author.Tests.{le-leb, lt-leb}
 use Rattle.lists.proofs.Below.{every_none, every_next, every_stop, every_done}
 use native.Mathlib.Omega.{arith}
