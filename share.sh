@@ -12,13 +12,13 @@ if [ $# -eq 1 ] && { [ -d "$1" ] || [ ! -r "$1" ]; }; then
     exit 2
 fi
 home=$(cd "$(dirname "$0")" && pwd)
-program=$home/target/bin/share
-note=$home/target/stamp/share
+program=$home/crates/share/out/share
+note=$home/crates/share/out/share.stamp
 
 # The folders of the crates that the program stands on, its own among them, by crates.txt.
 folders() {
     awk -F: -v home="$home" '
-        /^[^#]/ { below[$1] = $2 }
+        /^[^#]/ { sub(/ staticlib$/, "", $1); below[$1] = $2 }
         END {
             reached["share"]
             do {
@@ -32,11 +32,16 @@ folders() {
         }' "$home/crates.txt"
 }
 
+# A file of these that is newer than the program, if there is one. What rt keeps in out/ does not count.
+newer() {
+    find "$@" -name out -prune -o \( -newer "$program" -o -cnewer "$program" \) -print -quit 2>&1
+}
+
 # Whether the program is there, rt has noted it as proved, and nothing that it stands on was altered, replaced or removed after it.
 stands() {
     local on
     mapfile -t on < <(folders)
-    [ -x "$program" ] && [ -e "$note" ] && [ -z "$(find "$home/crates.txt" "${on[@]}" \( -newer "$program" -o -cnewer "$program" \) -print -quit 2>&1)" ]
+    [ -x "$program" ] && [ -e "$note" ] && [ -z "$(newer "$home/crates.txt" -mindepth 0)$(newer "${on[@]}" -mindepth 1)" ]
 }
 
 # Proves and builds the program. It gets the time at which this began, so that a file altered meanwhile is newer.
@@ -53,7 +58,8 @@ build() {
         # Where the note stands, rt builds no program.
         rm -f "$note"
     fi
-    (cd "$home" && rt check share) </dev/null 2>&1 | tee "$folder/log" | sed -unE 's/^rt: ([a-z0-9_]+ proved \([0-9]+ s\))$/share.sh: \1/p' >&2
+    # `rt run` runs it too, on no input.
+    (cd "$home/crates/share" && rt run) </dev/null 2>&1 | tee "$folder/log" | sed -unE 's/^rt: chose .* for ([a-z0-9_]+)$/share.sh: proving \1/p' >&2
     if [ "${PIPESTATUS[0]}" -ne 0 ]; then
         echo "share.sh: the program is not proved; rt says:" >&2
         cat "$folder/log" >&2
@@ -64,6 +70,7 @@ build() {
         exit 1
     fi
     touch -r "$folder/began" "$program"
+    echo "share.sh: share is proved and built" >&2
 }
 
 # One run at a time looks and builds: it holds the lock of the project's folder.

@@ -68,7 +68,7 @@ reads() {
             bad=1
         fi
         # shellcheck disable=SC2086
-    done < <(sed -nE '/\.specs\.declared\./d; s/^use Rattle·([a-z0-9_]+)(·[a-z]+)?\.([a-z]+)\.([A-Za-z0-9]+)\..*/crates\/\1\/\3\/\4.antt/p' $files | sort -u)
+    done < <(sed -nE '/\.specs\.declared\./d; /^use Rattle\.std\./d; s/^use Rattle\.([a-z0-9_]+)\.(specs|proofs)\.([A-Za-z0-9]+)\..*/crates\/\1\/\2\/\3.antt/p' $files | sort -u)
 }
 
 calls=$(listed "The calls")
@@ -86,7 +86,7 @@ while read -r name; do
     echo "two definitions of specs/ have the name $name:"
     grep -nE "^(abbrev|unfoldable) pub $name |^(pub )?(record|data) $name " crates/*/specs/*.antt | cut -d : -f 1,2
     bad=1
-done < <(sed -nE 's/^(abbrev|unfoldable) pub ([A-Za-z0-9]+) .*/\2/p; s/^pub (record|data) ([A-Za-z0-9]+) .*/\2/p' crates/*/specs/*.antt | sort | uniq -d)
+done < <(sed -nE 's/^(abbrev|unfoldable) pub ([A-Za-z0-9_]+) .*/\2/p; s/^pub (record|data) ([A-Za-z0-9_]+) .*/\2/p' crates/*/specs/*.antt | sort | uniq -d)
 
 # Every law that a crate states has its row.
 for law in $(sed -nE 's/^abbrev pub ([A-Za-z0-9]+) : Type 0$/\1/p' crates/*/specs/Laws.antt crates/*/specs/Theorems.antt); do
@@ -118,7 +118,7 @@ header=crates/share_c/share.h
 wrapper=crates/share_c/rust/src/refusal.rs
 second=tests/second/src/refusal.rs
 
-table=$(rows 's/^numberOf ([A-Za-z]+) = ([0-9]+)$/\2 \1/p' <$numbers)
+table=$(rows 's/^number_of ([A-Za-z]+) = ([0-9]+)$/\2 \1/p' <$numbers)
 agrees "$numbers, by number" "$(cut -d ' ' -f 1 <<<"$table")" "$(seq 16)"
 agrees $code "$(rows 's/^ *Refusal::([A-Za-z]+) => ([0-9]+),$/\2 \1/p' <$code)" "$table"
 agrees README.md "$(rows 's/^\| ([0-9]+) \| `([A-Za-z]+)` \| .*/\1 \2/p' <README.md)" "$table"

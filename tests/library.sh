@@ -42,11 +42,11 @@ same() {
     done
 }
 
-same resultMost crates/evaluation/specs/Layout.antt RESULT_MOST crates/evaluation/src/lib.rt RESULT_MOST $home/share.h RESULT_MOST $home/rust/src/lib.rs
+same result_most crates/evaluation/specs/Layout.antt RESULT_MOST crates/evaluation/src/lib.rt RESULT_MOST $home/share.h RESULT_MOST $home/rust/src/lib.rs
 same MEASURED crates/lookup/src/lib.rt SHARE_MEASURED $home/share.h Measured $home/rust/src/origin.rs
 same ZERO_BY_STATUS crates/lookup/src/lib.rt SHARE_ZERO_BY_STATUS $home/share.h ZeroByStatus $home/rust/src/origin.rs
 same ZERO_FOR_LACK crates/lookup/src/lib.rt SHARE_ZERO_FOR_LACK $home/share.h ZeroForLack $home/rust/src/origin.rs
-same changeoverCount crates/calendar/specs/Changeovers.antt CHANGEOVER_COUNT $home/share.h CHANGEOVER_COUNT $home/rust/src/lib.rs
+same changeover_count crates/calendar/specs/Changeovers.antt CHANGEOVER_COUNT $home/share.h CHANGEOVER_COUNT $home/rust/src/lib.rs
 same TEXT_MOST $home/share.h TEXT_MOST $home/rust/src/lib.rs
 
 # The origins of a file, each with its number, by the lines that a substitution gives; ZeroByStatus is written ZERO_BY_STATUS.
@@ -64,7 +64,7 @@ fi
 # The examples of one name, in C and in Rust, and the file with what they have to write.
 both() {
     # shellcheck disable=SC2086
-    cc -std=c99 $strict -O2 -I $home "$home/examples/$1.c" target/staticlib/libshare_c.a -o "$folder/$1" || failed=1
+    cc -std=c99 $strict -O2 -I $home "$home/examples/$1.c" crates/share_c/out/libshare_c.a -o "$folder/$1" || failed=1
     run C "$2" "$folder/$1"
     run Rust "$2" cargo run --quiet --offline --release --manifest-path $home/rust/Cargo.toml --target-dir target/cargo --example "$1"
 }

@@ -13,7 +13,6 @@ trap 'rm -rf "$folder"' EXIT
 mkdir "$folder/tests"
 cp -r tests/Cargo.toml tests/runs tests/bench "$folder/tests"
 ln -s "$home/crates" "$folder/crates"
-ln -s "$home/target" "$folder/target"
 caught=0
 missed=0
 

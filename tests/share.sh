@@ -12,7 +12,7 @@ failed=0
 
 # One run: its name, the input and the output expected.
 run() {
-    if target/bin/share <"$2" >"$folder/out" && cmp -s "$folder/out" "$3"; then
+    if crates/share/out/share <"$2" >"$folder/out" && cmp -s "$folder/out" "$3"; then
         passed=$((passed + 1))
     else
         failed=$((failed + 1))

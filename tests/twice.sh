@@ -1,6 +1,6 @@
 #!/usr/bin/env bash
 # Two runs of share.sh at once, in a copy of the project: where the program is built neither starts `rt`; where it is not, one starts `rt` and the other
-# waits; afterwards a run needs no `rt` until a file that the program stands on is altered or replaced, and what `rt` has noted of the crates is as it was.
+# waits; afterwards a run needs no `rt` until a file that the program stands on is altered or replaced, and what `rt` has noted of the program is as it was.
 # The `rt` of these runs stands before the kit's on the path: it tells how often it was started, and fails where another one is at work.
 set -u
 cd "$(dirname "$0")/.." || exit 1
@@ -8,13 +8,10 @@ bash share.sh tests/share/list.in >/dev/null || exit 1
 
 folder=$(mktemp -d) || exit 1
 trap 'rm -rf "$folder"' EXIT
-mkdir -p "$folder/copy/target" "$folder/bin"
+mkdir -p "$folder/copy" "$folder/bin"
 cp -a share.sh crates crates.txt "$folder/copy"
-cp -a target/bin target/obj target/log target/stamp "$folder/copy/target"
 # The copies are newer than the program's copy.
-touch "$folder/copy/target/bin/share"
-# The proved libraries are only read.
-ln -s "$PWD/target/rlib" "$folder/copy/target/rlib"
+touch "$folder/copy/crates/share/out/share"
 input=$PWD/tests/share/list.in
 output=$PWD/tests/share/list.out
 kit=$(command -v rt || true)
@@ -61,10 +58,10 @@ make_rt "mkdir '$folder/busy' || exit 1
 status=\$?
 rmdir '$folder/busy'
 exit \$status"
-rm "$folder/copy/target/bin/share"
+rm "$folder/copy/crates/share/out/share"
 runs "two where the program is not built" 2 1
 [ "$(cat "$folder"/said? | grep -c 'waits for it')" -eq 1 ] || wrong "no run said that it waits"
-[ "$(cat "$folder"/said? | grep -c 'share.sh: share proved (')" -eq 1 ] || wrong "no run named the crate that it proved"
+[ "$(cat "$folder"/said? | grep -c 'share.sh: share is proved and built')" -eq 1 ] || wrong "no run named the crate that it proved"
 
 make_rt 'exit 1'
 runs "one after them" 1 0
@@ -84,6 +81,6 @@ make_rt 'echo the reason; exit 1'
 touch "$folder/copy/crates.txt"
 PATH="$folder/bin:$PATH" bash "$folder/copy/share.sh" "$input" >"$folder/out1" 2>"$folder/said1"
 [ $? -eq 1 ] && [ ! -s "$folder/out1" ] && grep -q 'the reason' "$folder/said1" || wrong "a failing rt is not told"
-diff -r target/stamp "$folder/copy/target/stamp" || wrong "what rt has noted of the proved crates is not what it was"
+cmp crates/share/out/share.stamp "$folder/copy/crates/share/out/share.stamp" || wrong "what rt has noted of the proved program is not what it was"
 
 [ "$failed" -eq 0 ] && echo "twice.sh: two runs at once, on a built tree and on one that is not, and one after them"

@@ -1,8 +1,8 @@
 /*
  * The proved server for electricity sharing by quarter hours, as a static library for C (x86-64).
  *
- *     rt staticlib share_c                          writes target/staticlib/libshare_c.a
- *     cc program.c -I crates/share_c target/staticlib/libshare_c.a
+ *     cd crates/share_c && rt lib                   writes crates/share_c/out/libshare_c.a
+ *     cc program.c -I crates/share_c crates/share_c/out/libshare_c.a
  *
  * Every call is total: it takes any numbers and any contents, ends, and refuses what it cannot do. The library has no memory of its own: it
  * allocates nothing, keeps no pointer, and has no global variable. The caller owns record, journal, text, buffer and result list, lends them

@@ -32,9 +32,9 @@ impl Programs {
     /// The programs where they are built: `second` lies beside the benchmark.
     pub fn find() -> Result<Programs, String> {
         let own = std::env::current_exe().map_err(|error| error.to_string())?;
-        let share = root().join("target/bin/share");
+        let share = root().join("crates/share/out/share");
         let second = own.with_file_name(format!("second{}", std::env::consts::EXE_SUFFIX));
-        for (program, command) in [(&share, "rt check share"), (&second, "cargo build -p second")] {
+        for (program, command) in [(&share, "bash share.sh"), (&second, "cargo build -p second")] {
             if !program.exists() {
                 return Err(format!("{} is not there: run `{command}` first", program.display()));
             }

@@ -29,7 +29,9 @@ const ANSWERS: std::ops::RangeInclusive<usize> = 0..=13;
 /// A program that `rt` proved and built, by its name.
 pub fn program(name: &str) -> PathBuf {
     Path::new(env!("CARGO_MANIFEST_DIR"))
-        .join("../../target/bin")
+        .join("../../crates")
+        .join(name)
+        .join("out")
         .join(name)
 }
 
@@ -39,7 +41,7 @@ pub fn written(program: &Path, input: &[u8]) -> Vec<u8> {
         .stdin(Stdio::piped())
         .stdout(Stdio::piped())
         .spawn()
-        .unwrap_or_else(|error| panic!("{}: {error}; `rt check` builds it", program.display()));
+        .unwrap_or_else(|error| panic!("{}: {error}; `rt run` in its folder builds it", program.display()));
     // Program `share` reads its input before it writes, and ends early where there is too much of it.
     let _ = child.stdin.take().expect("a pipe").write_all(input);
     let mut output = Vec::new();
