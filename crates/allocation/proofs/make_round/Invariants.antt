@@ -1,5 +1,5 @@
 -- What the loops of `allocation::make_round` keep. Assumes nothing.
-use Prim.Native.Nat.{◌-◌, ◌≤◌}
+use Prim.Native.Nat.{◌+◌, ◌-◌, ◌≤◌, ◌<◌}
 use mathlib.Core.Path.{◌≡◌}
 use lib.ListN.{get_or}
 use Rattle.allocation.specs.Rounds.{left_at}
@@ -12,6 +12,8 @@ invariant-loop-priority l =
     × (l.withdrawal ≡ left_at (offer_for l.counts l.sources l.keys l.start l.producers l.consumers l.consumer) (get_or l.start l.point 0) l.priority)
     × Fallen l.counts l.sources l.keys l.start l.producers l.consumers l.consumer (passed_at l.counts l.consumer l.priority) l.left
     × Own l.counts l.sources l.keys l.start l.producers l.consumers l.initial.shares l.shares l.consumer l.priority
+    × (l.producers + l.consumer < 64)
+    × (l.count ≤ 5)
 
 abbrev pub decreases-loop-priority : goal.decreases-loop-priority
 decreases-loop-priority l = l.count - l.priority

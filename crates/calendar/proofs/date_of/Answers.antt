@@ -9,15 +9,16 @@ use Rattle.calendar.proofs.Places.{in_year, InMonth, in_month}
 use Rattle.calendar.proofs.date_of.Goals as goal
 use Rattle.calendar.proofs.date_of.Goals.{After-days_in_years, After-month_at-start}
 
-date-is : (day passed before month start : ℕ) → day ≤ last_day → 2024 + passed ≡ year_of day → before ≡ days_before_year passed → month ≡ month_in (2024 + passed) (day - before)
+date_is : (day passed before month start : ℕ) → day ≤ last_day → 2024 + passed ≡ year_of day → before ≡ days_before_year passed → month ≡ month_in (2024 + passed) (day - before)
     → start ≡ days_before_month (2024 + passed) (month_in (2024 + passed) (day - before) - 1) → (2024 + passed) * 10000 + month * 100 + (day - before - start + 1) ≡ date_of day
 unfolding date_of day_in_year
-date-is day passed before month start h y b m s =
+date_is day passed before month start h y b m s =
     let e : year_of day - 2024 ≡ passed = omega arith in
     rw (le-leb day last_day h, m, s, b, e, ← y)
 
 -- the day lies in that year
-of_year : (c : After-days_in_years) → (c.years_passed-passed.result ≤ 75) × (c.days_in_years.result ≤ c.args.day) × (c.args.day - c.days_in_years.result < year_length (2024 + c.years_passed-passed.result))
+of_year : (c : After-days_in_years) → (c.years_passed-passed.result ≤ 75) × (c.days_in_years.result ≤ c.args.day) ×
+    (c.args.day - c.days_in_years.result < year_length (2024 + c.years_passed-passed.result))
 of_year c =
     let passed = c.years_passed-passed.result in
     let y = in_year c.args.day (omega arith) in
@@ -61,5 +62,5 @@ overflow_add-result-2 c = omega (arith, (of_year (goal.at.overflow_add-result-2 
 
 pub returns : goal.returns
 returns c =
-    date-is _ _ _ _ _ (omega arith) c.years_passed-passed.ensures c.days_in_years.ensures c.month_at-start.ensures.0
+    date_is _ _ _ _ _ (omega arith) c.years_passed-passed.ensures c.days_in_years.ensures c.month_at-start.ensures.0
     c.month_at-start.ensures.1

@@ -21,7 +21,9 @@ loop-i-init c =
     (omega arith, same_last a.column.now a.minus true (length a.column.now) a.value (omega arith) refl (eq-eqb _ _ (sym c.if-column-i.false)))
 
 pub returns-then-column-i-2 : goal.returns-then-column-i-2
-returns-then-column-i-2 c = sym (c.loop-i.invariant.1 ∙ same_step c.args.column.now c.loop-i.due false c.loop-i.i c.loop-i.n (omega arith) (omega arith) (ne_eqb _ _ (λ e. c.if-column-i-2.true (sym e ∙ sym c.byte_before.ensures))))
+returns-then-column-i-2 c =
+    sym (c.loop-i.invariant.1 ∙ same_step c.args.column.now c.loop-i.due false c.loop-i.i c.loop-i.n (omega arith) (omega arith)
+    (ne_eqb _ _ (λ e. c.if-column-i-2.true (sym e ∙ sym c.byte_before.ensures))))
 
 pub loop-i-preserved : goal.loop-i-preserved
 loop-i-preserved c =

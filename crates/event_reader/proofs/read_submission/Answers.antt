@@ -44,12 +44,17 @@ read_two-requires-2 c =
     rw (tail_part line 33) (omega (arith, length-drop 33 line, long (goal.at.read_two-requires-2 c).Else-not-is_framed))
 
 pub returns-in_default-read_two : goal.returns-in_default-read_two
-returns-in_default-read_two c = in_parts _ _ _ _ (framed (goal.at.returns-in_default-read_two c).Else-not-is_framed) (ap two_of (sym c.in-Are.is) ∙ c.read_two.ensures) (ap two_of (sym c.in_default-read_two.is) ∙ c.read_two-2.ensures) refl
+returns-in_default-read_two c =
+    in_parts _ _ _ _ (framed (goal.at.returns-in_default-read_two c).Else-not-is_framed) (ap two_of (sym c.in-Are.is) ∙ c.read_two.ensures)
+    (ap two_of (sym c.in_default-read_two.is) ∙ c.read_two-2.ensures) refl
 
 pub returns-in_default-read_signed : goal.returns-in_default-read_signed
-returns-in_default-read_signed c = in_parts _ _ _ _ (framed (goal.at.returns-in_default-read_signed c).Else-not-is_framed) (ap two_of (sym c.in-Are.is) ∙ c.read_two.ensures) (ap two_of (sym c.in-Are-read_two.is) ∙ c.read_two-2.ensures) (sym c.in_default-read_signed.is ∙ c.read_signed.ensures)
+returns-in_default-read_signed c =
+    in_parts _ _ _ _ (framed (goal.at.returns-in_default-read_signed c).Else-not-is_framed) (ap two_of (sym c.in-Are.is) ∙ c.read_two.ensures)
+    (ap two_of (sym c.in-Are-read_two.is) ∙ c.read_two-2.ensures) (sym c.in_default-read_signed.is ∙ c.read_signed.ensures)
 
 pub returns : goal.returns
 returns c =
     rw (to_z-of_z w64 c.in-Is.value (search rules))
-    (in_parts _ _ _ _ (framed (goal.at.returns c).Else-not-is_framed) (ap two_of (sym c.in-Are.is) ∙ c.read_two.ensures) (ap two_of (sym c.in-Are-read_two.is) ∙ c.read_two-2.ensures) (sym c.in-Is.is ∙ c.read_signed.ensures))
+    (in_parts _ _ _ _ (framed (goal.at.returns c).Else-not-is_framed) (ap two_of (sym c.in-Are.is) ∙ c.read_two.ensures)
+        (ap two_of (sym c.in-Are-read_two.is) ∙ c.read_two-2.ensures) (sym c.in-Is.is ∙ c.read_signed.ensures))

@@ -22,10 +22,14 @@ pub returns-then-day-numbers : goal.returns-then-day-numbers
 returns-then-day-numbers c = clear_cleared _ _ _ _ (undamaged_there (goal.at.returns-then-day-numbers c).Else-damaged) (le-leb _ _ c.if-day-gt-LAST_DAY.false) c.if-day-numbers.true
 
 pub returns-then-stamp-numbers : goal.returns-then-stamp-numbers
-returns-then-stamp-numbers c = clear_below _ _ _ _ (undamaged_there (goal.at.returns-then-stamp-numbers c).Else-damaged) (le-leb _ _ c.if-day-gt-LAST_DAY.false) c.if-day-numbers.false c.if-stamp-numbers.true
+returns-then-stamp-numbers c =
+    clear_below _ _ _ _ (undamaged_there (goal.at.returns-then-stamp-numbers c).Else-damaged) (le-leb _ _ c.if-day-gt-LAST_DAY.false)
+    c.if-day-numbers.false c.if-stamp-numbers.true
 
 pub returns-then-last-stamp : goal.returns-then-last-stamp
-returns-then-last-stamp c = clear_above _ _ _ _ (undamaged_there (goal.at.returns-then-last-stamp c).Else-damaged) (le-leb _ _ c.if-day-gt-LAST_DAY.false) c.if-day-numbers.false c.if-stamp-numbers.false c.if-last-stamp.true
+returns-then-last-stamp c =
+    clear_above _ _ _ _ (undamaged_there (goal.at.returns-then-last-stamp c).Else-damaged) (le-leb _ _ c.if-day-gt-LAST_DAY.false) c.if-day-numbers.false
+    c.if-stamp-numbers.false c.if-last-stamp.true
 
 pub returns : goal.returns
 returns c = clear_accepted _ _ _ _ (undamaged_there (goal.at.returns c).Else-damaged) (le-leb _ _ c.if-day-gt-LAST_DAY.false) c.if-day-numbers.false c.if-stamp-numbers.false c.if-last-stamp.false

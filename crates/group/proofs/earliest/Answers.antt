@@ -5,14 +5,14 @@ use Rattle.group.specs.Refusals.{days_before, earliest}
 use Rattle.group.proofs.earliest.Goals as goal
 
 -- with a kept day above 0 it is four weeks later
-earliest-some : (K : ℕ) → (K ≡ 0 → ⊥) → K + days_before ≡ earliest K
+earliest_some : (K : ℕ) → (K ≡ 0 → ⊥) → K + days_before ≡ earliest K
 unfolding earliest
-earliest-some zero n = absurd (n refl)
-earliest-some (suc K) n = refl
+earliest_some zero n = absurd (n refl)
+earliest_some (suc K) n = refl
 
 pub returns-then-kept-eq0 : goal.returns-then-kept-eq0
 unfolding earliest
 returns-then-kept-eq0 c = rw c.if-kept-eq0.true
 
 pub returns : goal.returns
-returns c = earliest-some _ c.if-kept-eq0.false
+returns c = earliest_some _ c.if-kept-eq0.false

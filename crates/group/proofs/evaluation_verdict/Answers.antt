@@ -34,19 +34,33 @@ pub earliest-requires : goal.earliest-requires
 earliest-requires c = (undamaged_sound _ _ (undamaged_there (goal.at.earliest-requires c).Else-damaged)).kept_day
 
 pub returns-then-day-earliest : goal.returns-then-day-earliest
-returns-then-day-earliest c = evaluation_cleared _ _ _ _ _ _ (undamaged_there (goal.at.returns-then-day-earliest c).Else-damaged) (there_is (goal.at.returns-then-day-earliest c).Else-not-exists) (rw (← c.earliest.ensures) c.if-day-earliest.true)
+returns-then-day-earliest c =
+    evaluation_cleared _ _ _ _ _ _ (undamaged_there (goal.at.returns-then-day-earliest c).Else-damaged)
+    (there_is (goal.at.returns-then-day-earliest c).Else-not-exists) (rw (← c.earliest.ensures) c.if-day-earliest.true)
 
 pub returns-then-until-numbers : goal.returns-then-until-numbers
-returns-then-until-numbers c = evaluation_below _ _ _ _ _ _ (undamaged_there (goal.at.returns-then-until-numbers c).Else-damaged) (there_is (goal.at.returns-then-until-numbers c).Else-not-exists) (not_cleared (goal.at.returns-then-until-numbers c).Else-day-earliest) c.if-until-numbers.true
+returns-then-until-numbers c =
+    evaluation_below _ _ _ _ _ _ (undamaged_there (goal.at.returns-then-until-numbers c).Else-damaged)
+    (there_is (goal.at.returns-then-until-numbers c).Else-not-exists) (not_cleared (goal.at.returns-then-until-numbers c).Else-day-earliest)
+    c.if-until-numbers.true
 
 pub returns-then-last-until : goal.returns-then-last-until
-returns-then-last-until c = evaluation_above _ _ _ _ _ _ (undamaged_there (goal.at.returns-then-last-until c).Else-damaged) (there_is (goal.at.returns-then-last-until c).Else-not-exists) (not_cleared (goal.at.returns-then-last-until c).Else-day-earliest) c.if-until-numbers.false c.if-last-until.true
+returns-then-last-until c =
+    evaluation_above _ _ _ _ _ _ (undamaged_there (goal.at.returns-then-last-until c).Else-damaged)
+    (there_is (goal.at.returns-then-last-until c).Else-not-exists) (not_cleared (goal.at.returns-then-last-until c).Else-day-earliest)
+    c.if-until-numbers.false c.if-last-until.true
 
 pub layout_of-layout-requires : goal.layout_of-layout-requires
 layout_of-layout-requires c = few_points _ _ (undamaged_sound _ _ (undamaged_there (goal.at.layout_of-layout-requires c).Else-damaged))
 
 pub returns-then-lent-layout : goal.returns-then-lent-layout
-returns-then-lent-layout c = evaluation_short _ _ _ _ _ _ (undamaged_there (goal.at.returns-then-lent-layout c).Else-damaged) (there_is (goal.at.returns-then-lent-layout c).Else-not-exists) (not_cleared (goal.at.returns-then-lent-layout c).Else-day-earliest) c.if-until-numbers.false c.if-last-until.false (rw (← c.layout_of-layout.ensures.size) c.if-lent-layout.true)
+returns-then-lent-layout c =
+    evaluation_short _ _ _ _ _ _ (undamaged_there (goal.at.returns-then-lent-layout c).Else-damaged)
+    (there_is (goal.at.returns-then-lent-layout c).Else-not-exists) (not_cleared (goal.at.returns-then-lent-layout c).Else-day-earliest)
+    c.if-until-numbers.false c.if-last-until.false (rw (← c.layout_of-layout.ensures.size) c.if-lent-layout.true)
 
 pub returns : goal.returns
-returns c = evaluation_accepted _ _ _ _ _ _ (undamaged_there (goal.at.returns c).Else-damaged) (there_is (goal.at.returns c).Else-not-exists) (not_cleared (goal.at.returns c).Else-day-earliest) c.if-until-numbers.false c.if-last-until.false (rw (← c.layout_of-layout.ensures.size) c.if-lent-layout.false)
+returns c =
+    evaluation_accepted _ _ _ _ _ _ (undamaged_there (goal.at.returns c).Else-damaged) (there_is (goal.at.returns c).Else-not-exists)
+    (not_cleared (goal.at.returns c).Else-day-earliest) c.if-until-numbers.false c.if-last-until.false
+    (rw (← c.layout_of-layout.ensures.size) c.if-lent-layout.false)

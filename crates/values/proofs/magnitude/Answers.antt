@@ -36,15 +36,19 @@ overflow_cast-result c =
 pub overflow_add-result-then-value-lt0 : goal.overflow_add-result-then-value-lt0
 overflow_add-result-then-value-lt0 c =
     let b = bound (goal.at.overflow_add-result-then-value-lt0 c).Then-value-lt0 in
-    rw (read c.args.value (low (goal.at.overflow_add-result-then-value-lt0 c).Then-value-lt0).n (low (goal.at.overflow_add-result-then-value-lt0 c).Then-value-lt0).is c.ranges.value) (record { fits = omega arith })
+    rw (read c.args.value (low (goal.at.overflow_add-result-then-value-lt0 c).Then-value-lt0).n
+        (low (goal.at.overflow_add-result-then-value-lt0 c).Then-value-lt0).is c.ranges.value) (record { fits = omega arith })
 
 pub overflow_cast-result-else-value-lt0 : goal.overflow_cast-result-else-value-lt0
 overflow_cast-result-else-value-lt0 c =
     let b = small⁺ _ _ (high (goal.at.overflow_cast-result-else-value-lt0 c).Else-value-lt0).is c.ranges.value in
-    subst (λ (y : ℤ). T (non_neg y) × Fits w64 (nat_abs y)) (sym (to_z-of_z w64 _ c.ranges.value ∙ (high (goal.at.overflow_cast-result-else-value-lt0 c).Else-value-lt0).is)) (tt, record { fits = omega arith })
+    subst (λ (y : ℤ). T (non_neg y) × Fits w64 (nat_abs y))
+        (sym (to_z-of_z w64 _ c.ranges.value ∙ (high (goal.at.overflow_cast-result-else-value-lt0 c).Else-value-lt0).is)) (tt, record { fits = omega arith })
 
 pub returns-then-value-lt0 : goal.returns-then-value-lt0
-returns-then-value-lt0 c = ap (λ (y : ℤ). nat_abs y + 1) (read _ _ (low (goal.at.returns-then-value-lt0 c).Then-value-lt0).is c.ranges.value) ∙ add-one (low (goal.at.returns-then-value-lt0 c).Then-value-lt0).n ∙ sym (ap nat_abs (low (goal.at.returns-then-value-lt0 c).Then-value-lt0).is)
+returns-then-value-lt0 c =
+    ap (λ (y : ℤ). nat_abs y + 1) (read _ _ (low (goal.at.returns-then-value-lt0 c).Then-value-lt0).is c.ranges.value) ∙ add-one
+    (low (goal.at.returns-then-value-lt0 c).Then-value-lt0).n ∙ sym (ap nat_abs (low (goal.at.returns-then-value-lt0 c).Then-value-lt0).is)
 
 pub returns-else-value-lt0 : goal.returns-else-value-lt0
 returns-else-value-lt0 c = ap nat_abs (to_z-of_z w64 _ c.ranges.value)
