@@ -107,10 +107,10 @@ pub fn evaluate(
     day: u64,
     quarter: u64,
     until: u64,
-    res: &mut [u64],
+    list: &mut [u64],
 ) -> usize
-    requires { Shareable registration × (quarter_exists day quarter ≡ true) × (3 * count ≤ length journal.now) × Right (entries count journal.now) × (size_of registration ≤ length res.old) }
-    ensures { ResultPut (result_from registration (values_in registration (entries count journal.now) day quarter until)) res.old res.new result }
+    requires { Shareable registration × (quarter_exists day quarter ≡ true) × (3 * count ≤ length journal.now) × Right (entries count journal.now) × (size_of registration ≤ length list.old) }
+    ensures { ResultPut (result_from registration (values_in registration (entries count journal.now) day quarter until)) list.old list.new result }
 {
     let asked = Asked {
         day,
@@ -122,6 +122,6 @@ pub fn evaluate(
     let values = lookup::values(journal, count, asked, statuses, points);
     let magnitudes = values.magnitudes;
     let allocated = allocation::allocate(registration, magnitudes);
-    put_parts(res, registration, allocated, values);
+    put_parts(list, registration, allocated, values);
     allocated.rounds
 }

@@ -143,9 +143,9 @@ impl Service {
         day: u64,
         quarter: u64,
         until: u64,
-        res: &mut [u64],
+        list: &mut [u64],
     ) -> Evaluated
-        ensures { Evaluates self journal.now day quarter until res.old result res.new }
+        ensures { Evaluates self journal.now day quarter until list.old result list.new }
     {
         let state = self.state;
         evaluate(
@@ -156,7 +156,7 @@ impl Service {
             day,
             quarter,
             until,
-            res,
+            list,
         )
     }
 }
@@ -248,9 +248,9 @@ pub fn evaluate(
     day: u64,
     quarter: u64,
     until: u64,
-    res: &mut [u64],
+    list: &mut [u64],
 ) -> Evaluated
-    ensures { Evaluates (record_of registration last numbers) journal.now day quarter until res.old result res.new }
+    ensures { Evaluates (record_of registration last numbers) journal.now day quarter until list.old result list.new }
 {
     let verdict = group::evaluation_verdict(
         registration,
@@ -260,12 +260,12 @@ pub fn evaluate(
         day,
         quarter,
         until,
-        res,
+        list,
     );
     if let Verdict::Refused(refusal) = verdict {
         return Evaluated { verdict, rounds: 0 };
     }
     let count = numbers.entries;
-    let rounds = evaluation::evaluate(registration, journal, count, day, quarter, until, res);
+    let rounds = evaluation::evaluate(registration, journal, count, day, quarter, until, list);
     Evaluated { verdict, rounds }
 }

@@ -198,11 +198,11 @@ pub extern "C" fn share_evaluate(
     day: u64,
     quarter: u64,
     until: u64,
-    res: &mut [u64],
+    list: &mut [u64],
 ) -> Evaluated
-    ensures { EvaluateLeaves service journal.now day quarter until res.old result res.new }
+    ensures { EvaluateLeaves service journal.now day quarter until list.old result list.new }
 {
-    let evaluated = service.evaluate(journal, day, quarter, until, res);
+    let evaluated = service.evaluate(journal, day, quarter, until, list);
     let verdict = evaluated.verdict;
     let answer = verdict.answer();
     let rounds = evaluated.rounds;

@@ -26,9 +26,12 @@ overflow_add-pairs c = omega (arith, byte (goal.at.overflow_add-pairs c).In-loop
 
 pub loop-consumer-preserved : goal.loop-consumer-preserved
 loop-consumer-preserved c =
-    let i = c.loop-consumer.consumer in
-    (omega arith, omega (arith, sum_next (λ k. get_or (counts_of (goal.at.loop-consumer-preserved c).In-loop-consumer) k 0) i), omega
-        (arith, byte (goal.at.loop-consumer-preserved c).In-loop-consumer i))
+    let i = c.loop-consumer.consumer in (
+      omega arith,
+      omega (arith, sum_next (λ k. get_or (counts_of (goal.at.loop-consumer-preserved c).In-loop-consumer) k 0) i),
+      omega
+          (arith, byte (goal.at.loop-consumer-preserved c).In-loop-consumer i),
+    )
 
 pub returns : goal.returns
 returns c =

@@ -57,4 +57,4 @@ pub returns : goal.returns
 returns c =
     rw (to_z-of_z w64 c.in-Is.value (search rules))
     (in_parts _ _ _ _ (framed (goal.at.returns c).Else-not-is_framed) (ap two_of (sym c.in-Are.is) ∙ c.read_two.ensures)
-        (ap two_of (sym c.in-Are-read_two.is) ∙ c.read_two-2.ensures) (sym c.in-Is.is ∙ c.read_signed.ensures))
+    (ap two_of (sym c.in-Are-read_two.is) ∙ c.read_two-2.ensures) (sym c.in-Is.is ∙ c.read_signed.ensures))

@@ -80,21 +80,21 @@ pub returns-then-point-points : goal.returns-then-point-points
 returns-then-point-points c =
     looks_refused _ _ _ _ _ _
     (submission_unknown _ _ _ _ (undamaged_there (goal.at.returns-then-point-points c).Else-damaged)
-        (not_in_group c.args.registration c.args.measurement.code _ c.find-point.ensures c.if-point-points.true))
+    (not_in_group c.args.registration c.args.measurement.code _ c.find-point.ensures c.if-point-points.true))
     c.refused-then-point-points.ensures
 
 pub returns-then-not-exists : goal.returns-then-not-exists
 returns-then-not-exists c =
     looks_refused _ _ _ _ _ _
     (submission_no_day _ _ _ _ (undamaged_there (goal.at.returns-then-not-exists c).Else-damaged)
-        (known (goal.at.returns-then-not-exists c).Else-point-points) (sym c.exists.ensures ∙ not-true _ c.if-not-exists.true-raw))
+    (known (goal.at.returns-then-not-exists c).Else-point-points) (sym c.exists.ensures ∙ not-true _ c.if-not-exists.true-raw))
     c.refused-then-not-exists.ensures
 
 pub returns-then-day-numbers : goal.returns-then-day-numbers
 returns-then-day-numbers c =
     looks_refused _ _ _ _ _ _
     (submission_cleared _ _ _ _ (undamaged_there (goal.at.returns-then-day-numbers c).Else-damaged)
-        (known (goal.at.returns-then-day-numbers c).Else-point-points) (there_is (goal.at.returns-then-day-numbers c).Else-not-exists) c.if-day-numbers.true)
+    (known (goal.at.returns-then-day-numbers c).Else-point-points) (there_is (goal.at.returns-then-day-numbers c).Else-not-exists) c.if-day-numbers.true)
     c.refused-then-day-numbers.ensures
 
 pub returns-then-not-sign_suits : goal.returns-then-not-sign_suits
@@ -104,8 +104,8 @@ returns-then-not-sign_suits c =
     let wrong = sym told ∙ not-true _ c.if-not-sign_suits.true-raw in
     looks_refused _ _ _ _ _ _
     (submission_wrong_sign _ _ _ _ (undamaged_there (goal.at.returns-then-not-sign_suits c).Else-damaged)
-        (known (goal.at.returns-then-not-sign_suits c).Else-point-points) (there_is (goal.at.returns-then-not-sign_suits c).Else-not-exists)
-        c.if-day-numbers.false wrong)
+    (known (goal.at.returns-then-not-sign_suits c).Else-point-points) (there_is (goal.at.returns-then-not-sign_suits c).Else-not-exists)
+    c.if-day-numbers.false wrong)
     c.refused-then-not-sign_suits.ensures
 
 pub returns-then-magnitude-gt-MAGNITUDE_MOST : goal.returns-then-magnitude-gt-MAGNITUDE_MOST
@@ -115,8 +115,8 @@ returns-then-magnitude-gt-MAGNITUDE_MOST c =
     looks_refused _ _ _ _ _ _
     (submission_too_great _ _ _ _ (undamaged_there (goal.at.returns-then-magnitude-gt-MAGNITUDE_MOST c).Else-damaged)
     (known (goal.at.returns-then-magnitude-gt-MAGNITUDE_MOST c).Else-point-points)
-        (there_is (goal.at.returns-then-magnitude-gt-MAGNITUDE_MOST c).Else-not-exists) c.if-day-numbers.false
-        (suits (goal.at.returns-then-magnitude-gt-MAGNITUDE_MOST c).Else-not-sign_suits) (omega (arith, magnitude, c.if-magnitude-gt-MAGNITUDE_MOST.true)))
+    (there_is (goal.at.returns-then-magnitude-gt-MAGNITUDE_MOST c).Else-not-exists) c.if-day-numbers.false
+    (suits (goal.at.returns-then-magnitude-gt-MAGNITUDE_MOST c).Else-not-sign_suits) (omega (arith, magnitude, c.if-magnitude-gt-MAGNITUDE_MOST.true)))
     c.refused-then-magnitude-gt-MAGNITUDE_MOST.ensures
 
 pub returns-then-clock-gt-STAMP_MOST : goal.returns-then-clock-gt-STAMP_MOST
@@ -124,8 +124,8 @@ returns-then-clock-gt-STAMP_MOST c =
     looks_refused _ _ _ _ _ _
     (submission_late _ _ _ _ (undamaged_there (goal.at.returns-then-clock-gt-STAMP_MOST c).Else-damaged)
     (known (goal.at.returns-then-clock-gt-STAMP_MOST c).Else-point-points) (there_is (goal.at.returns-then-clock-gt-STAMP_MOST c).Else-not-exists)
-        c.if-day-numbers.false (suits (goal.at.returns-then-clock-gt-STAMP_MOST c).Else-not-sign_suits)
-        (small (goal.at.returns-then-clock-gt-STAMP_MOST c).Else-magnitude-gt-MAGNITUDE_MOST) c.if-clock-gt-STAMP_MOST.true)
+    c.if-day-numbers.false (suits (goal.at.returns-then-clock-gt-STAMP_MOST c).Else-not-sign_suits)
+    (small (goal.at.returns-then-clock-gt-STAMP_MOST c).Else-magnitude-gt-MAGNITUDE_MOST) c.if-clock-gt-STAMP_MOST.true)
     c.refused-then-clock-gt-STAMP_MOST.ensures
 
 pub returns-then-last-eq-STAMP_MOST : goal.returns-then-last-eq-STAMP_MOST
@@ -133,8 +133,8 @@ returns-then-last-eq-STAMP_MOST c =
     looks_refused _ _ _ _ _ _
     (submission_last _ _ _ _ (undamaged_there (goal.at.returns-then-last-eq-STAMP_MOST c).Else-damaged)
     (known (goal.at.returns-then-last-eq-STAMP_MOST c).Else-point-points) (there_is (goal.at.returns-then-last-eq-STAMP_MOST c).Else-not-exists)
-        c.if-day-numbers.false (suits (goal.at.returns-then-last-eq-STAMP_MOST c).Else-not-sign_suits)
-        (small (goal.at.returns-then-last-eq-STAMP_MOST c).Else-magnitude-gt-MAGNITUDE_MOST) c.if-clock-gt-STAMP_MOST.false c.if-last-eq-STAMP_MOST.true)
+    c.if-day-numbers.false (suits (goal.at.returns-then-last-eq-STAMP_MOST c).Else-not-sign_suits)
+    (small (goal.at.returns-then-last-eq-STAMP_MOST c).Else-magnitude-gt-MAGNITUDE_MOST) c.if-clock-gt-STAMP_MOST.false c.if-last-eq-STAMP_MOST.true)
     c.refused-then-last-eq-STAMP_MOST.ensures
 
 pub place-place-requires : goal.place-place-requires
@@ -144,9 +144,11 @@ place-place-requires c =
     (omega (arith, c.if-point-points.false, few (goal.at.place-place-requires c).Else-damaged), day, quarter.0, quarter.1)
 
 pub shown-found-requires : goal.shown-found-requires
-shown-found-requires c =
-    (fits (goal.at.shown-found-requires c).Else-last-eq-STAMP_MOST, right_of _ _ (few (goal.at.shown-found-requires c).Else-damaged)
-    (sound (goal.at.shown-found-requires c).Else-last-eq-STAMP_MOST))
+shown-found-requires c = (
+  fits (goal.at.shown-found-requires c).Else-last-eq-STAMP_MOST,
+  right_of _ _ (few (goal.at.shown-found-requires c).Else-damaged)
+      (sound (goal.at.shown-found-requires c).Else-last-eq-STAMP_MOST),
+)
 
 pub overflow_mul-left : goal.overflow_mul-left
 overflow_mul-left c = omega (arith, fits (goal.at.overflow_mul-left c).Else-last-eq-STAMP_MOST, c.well_formed)
@@ -163,12 +165,12 @@ returns c =
     looks_found _ _ _ _
     (submission_full _ _ _ _ (undamaged_there (goal.at.returns c).Else-damaged)
     (known (goal.at.returns c).Else-point-points) (there_is (goal.at.returns c).Else-not-exists) c.if-day-numbers.false
-        (suits (goal.at.returns c).Else-not-sign_suits) (small (goal.at.returns c).Else-magnitude-gt-MAGNITUDE_MOST) c.if-clock-gt-STAMP_MOST.false
-        c.if-last-eq-STAMP_MOST.false)
+    (suits (goal.at.returns c).Else-not-sign_suits) (small (goal.at.returns c).Else-magnitude-gt-MAGNITUDE_MOST) c.if-clock-gt-STAMP_MOST.false
+    c.if-last-eq-STAMP_MOST.false)
     (submission_accepted _ _ _ _ (undamaged_there (goal.at.returns c).Else-damaged)
     (known (goal.at.returns c).Else-point-points) (there_is (goal.at.returns c).Else-not-exists) c.if-day-numbers.false
-        (suits (goal.at.returns c).Else-not-sign_suits) (small (goal.at.returns c).Else-magnitude-gt-MAGNITUDE_MOST) c.if-clock-gt-STAMP_MOST.false
-        c.if-last-eq-STAMP_MOST.false)
+    (suits (goal.at.returns c).Else-not-sign_suits) (small (goal.at.returns c).Else-magnitude-gt-MAGNITUDE_MOST) c.if-clock-gt-STAMP_MOST.false
+    c.if-last-eq-STAMP_MOST.false)
     _ _ _ _ _ c.settle.ensures c.shown-found.ensures
     (measured (goal.at.returns c).Else-magnitude-gt-MAGNITUDE_MOST)
     (ap (λ (n : ℕ). length a.journal.now - 3 * n) (sym (length_entries a.numbers.entries a.journal.now)))

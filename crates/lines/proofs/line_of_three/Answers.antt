@@ -31,7 +31,7 @@ pub returns-then-is_framed : goal.returns-then-is_framed
 returns-then-is_framed c =
     let a = c.args in
     c.read_three.ensures ∙ in_frame a.letter (a.first + a.second + a.third) (a.first ∷ a.second ∷ a.third ∷ []) a.line.now
-        (total_three a.first a.second a.third) (framed (goal.at.returns-then-is_framed c).Then-is_framed)
+    (total_three a.first a.second a.third) (framed (goal.at.returns-then-is_framed c).Then-is_framed)
 
 pub returns : goal.returns
 returns c =

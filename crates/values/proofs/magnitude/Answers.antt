@@ -37,13 +37,13 @@ pub overflow_add-result-then-value-lt0 : goal.overflow_add-result-then-value-lt0
 overflow_add-result-then-value-lt0 c =
     let b = bound (goal.at.overflow_add-result-then-value-lt0 c).Then-value-lt0 in
     rw (read c.args.value (low (goal.at.overflow_add-result-then-value-lt0 c).Then-value-lt0).n
-        (low (goal.at.overflow_add-result-then-value-lt0 c).Then-value-lt0).is c.ranges.value) (record { fits = omega arith })
+    (low (goal.at.overflow_add-result-then-value-lt0 c).Then-value-lt0).is c.ranges.value) (record { fits = omega arith })
 
 pub overflow_cast-result-else-value-lt0 : goal.overflow_cast-result-else-value-lt0
 overflow_cast-result-else-value-lt0 c =
     let b = small⁺ _ _ (high (goal.at.overflow_cast-result-else-value-lt0 c).Else-value-lt0).is c.ranges.value in
     subst (λ (y : ℤ). T (non_neg y) × Fits w64 (nat_abs y))
-        (sym (to_z-of_z w64 _ c.ranges.value ∙ (high (goal.at.overflow_cast-result-else-value-lt0 c).Else-value-lt0).is)) (tt, record { fits = omega arith })
+    (sym (to_z-of_z w64 _ c.ranges.value ∙ (high (goal.at.overflow_cast-result-else-value-lt0 c).Else-value-lt0).is)) (tt, record { fits = omega arith })
 
 pub returns-then-value-lt0 : goal.returns-then-value-lt0
 returns-then-value-lt0 c =

@@ -29,4 +29,4 @@ unfolding with_count
 returns c =
     let args = c.args in
     sym (c.loop-priority.invariant.1 ∙ pairs_done c.loop-priority.next args.consumer (λ k. get_or args.sources.now k 0) (λ k. get_or args.keys.now k 0)
-        c.loop-priority.priority args.count c.loop-priority-test.false)
+    c.loop-priority.priority args.count c.loop-priority-test.false)
