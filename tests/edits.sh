@@ -1,7 +1,7 @@
 #!/usr/bin/env bash
-# Lists the public functions without a must-fail edit whose refusal begins at them:  bash tests/edits.sh LOG   or   rt must-fail --anew CRATE | bash tests/edits.sh
-# It reads what `rt ci` or `rt must-fail` said of the edits that it tried, and tries none itself. A refusal begins at a function where the place that is
-# named first lies in the function's folder of proofs/ or in its contract or body. Of crates whose edits were not tried in that run it says nothing but
+# Lists the public functions without a must-fail edit whose refusal begins at them:  bash tests/edits.sh LOG   or   rt must-fail CRATE | bash tests/edits.sh
+# It reads what `rt ci` or `rt must-fail` said of the edits, and tries none itself. A refusal begins at a function where the place that is
+# named first lies in the function's folder of proofs/ or in its contract or body. Of crates of whose edits nothing was said it tells nothing but
 # their number. It is no test: the exit status is 0.
 set -u
 cd "$(dirname "$0")/.." || exit 1
@@ -52,5 +52,5 @@ for crate in sorted(Path("crates").iterdir()):
     bare += [f"{crate.name}::{path.replace('/', '::')}" for path in public if path not in seen]
 for name in bare:
     print(f"edits.sh: {name} has no must-fail edit whose refusal begins at it")
-print(f"edits.sh: {len(bare)} of {every} public functions have none; of {untried} crates the edits were not tried in this run")
+print(f"edits.sh: {len(bare)} of {every} public functions have none; of the edits of {untried} crates nothing was said")
 P
