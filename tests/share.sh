@@ -44,6 +44,21 @@ run "32769 bytes are too many" "$folder/in" "$folder/refused"
 filled 100000 >"$folder/in"
 run "100000 bytes are too many" "$folder/in" "$folder/refused"
 
+# A read or a write that fails ends the program with an error: an input that is a folder, and an output that takes nothing.
+fails() {
+    if [ "$2" -ne 0 ] && [ -s "$folder/said" ] && [ ! -s "$folder/out" ]; then
+        passed=$((passed + 1))
+    else
+        failed=$((failed + 1))
+        echo "share.sh: $1 does not end the program with an error"
+    fi
+}
+: >"$folder/out"
+crates/share/out/share </ >"$folder/out" 2>"$folder/said"
+fails "a read that fails" $?
+crates/share/out/share <tests/share/list.in >/dev/full 2>"$folder/said"
+fails "a write that fails" $?
+
 # The command of README.md, on a file and on standard input.
 for way in "bash share.sh tests/share/list.in" "bash share.sh"; do
     if $way <tests/share/list.in >"$folder/out" && cmp -s "$folder/out" tests/share/list.out; then
