@@ -41,22 +41,24 @@ newer() {
 stands() {
     local on
     mapfile -t on < <(folders)
-    [ -x "$program" ] && [ -e "$note" ] && [ -z "$(newer "$home/crates.txt" -mindepth 0)$(newer "${on[@]}" -mindepth 1)" ]
+    [ -x "$program" ] && [ -e "$note" ] && [ -z "$(newer "$home/crates.txt" "${on[@]}")" ]
 }
 
 # Proves and builds the program. It gets the time at which this began, so that a file altered meanwhile is newer.
 build() {
+    local on
     if ! command -v rt >/dev/null 2>&1; then
         echo "share.sh: the Rattle kit is not installed: there is no command rt on the path" >&2
         exit 2
     fi
     folder=$(mktemp -d) || exit 2
     trap 'rm -rf "$folder"' EXIT
+    # rt's own folders are there before, so that a crate's folder is newer than the program only where a file of it was added or removed.
+    mapfile -t on < <(folders)
+    mkdir -p "${on[@]/%//out}" || exit 1
     touch "$folder/began"
     if [ ! -x "$program" ]; then
         echo "share.sh: the program is proved and built first, in some minutes" >&2
-        # Where the note stands, rt builds no program.
-        rm -f "$note"
     fi
     # `rt run` runs it too, on no input.
     (cd "$home/crates/share" && rt run) </dev/null 2>&1 | tee "$folder/log" | sed -unE 's/^rt: chose .* for ([a-z0-9_]+)$/share.sh: proving \1/p' >&2

@@ -14,7 +14,7 @@ build() {
     local output=$1 folder=$2 began
     shift 2
     began=$(mktemp) || exit 1
-    (cd "$folder" && rt "$@" </dev/null >/dev/null) || exit 1
+    (cd "$folder" && rt "$@" </dev/null >&2) || exit 1
     touch -r "$began" "$output" || exit 1
     rm "$began"
 }

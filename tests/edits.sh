@@ -4,8 +4,9 @@
 # named first lies in the function's folder of proofs/ or in its contract or body. Of crates of whose edits nothing was said it tells nothing but
 # their number. It is no test: the exit status is 0.
 set -u
+log=$(realpath -- "${1:-/dev/stdin}") || exit 1
 cd "$(dirname "$0")/.." || exit 1
-python3 - "${1:-/dev/stdin}" 3<&0 <<'P'
+python3 - "${1:+$log}" 3<&0 <<'P'
 import re, sys
 from pathlib import Path
 
@@ -31,7 +32,7 @@ def functions(crate):
 
 
 path = sys.argv[1]
-text = open(3 if path == "/dev/stdin" else path, errors="replace").read()
+text = open(path or 3, errors="replace").read()
 places = {}
 for crate, file, line in SAID.findall(text):
     places.setdefault(crate, []).append((file, int(line)))

@@ -1,4 +1,4 @@
-//! The two programs as processes on the same inputs: target/bin/share and the binary of the second implementation.
+//! The two programs as processes on the same inputs: crates/share/out/share and the binary of the second implementation.
 
 use crate::data::{self, Reading};
 use crate::timing::{median, Times};

@@ -7,11 +7,11 @@ use Rattle.points.proofs.Search.{Searched}
 use Rattle.points.proofs.find.Given as goal
 
 -- the codes of the points
-abbrev pub codesIn : List ℕ → ℕ → List ℕ
-codesIn codes points = table (λ point. get_or codes point 0) points
+abbrev pub codes_in : List ℕ → ℕ → List ℕ
+codes_in codes points = table (λ point. get_or codes point 0) points
 
 abbrev pub invariant-loop-point : goal.invariant-loop-point
-invariant-loop-point l = Searched l.code (codesIn l.codes l.points) l.point
+invariant-loop-point l = Searched l.code (codes_in l.codes l.points) l.point
 
 abbrev pub decreases-loop-point : goal.decreases-loop-point
 decreases-loop-point l = l.points - l.point
