@@ -162,15 +162,16 @@ settle-requires c = (sound (goal.at.settle-requires c).Else-last-eq-STAMP_MOST).
 pub returns : goal.returns
 returns c =
     let a = c.args in
+    let sound = undamaged_there (goal.at.returns c).Else-damaged in
+    let code = known (goal.at.returns c).Else-point-points in
+    let quarter = there_is (goal.at.returns c).Else-not-exists in
+    let sign = suits (goal.at.returns c).Else-not-sign_suits in
+    let size = small (goal.at.returns c).Else-magnitude-gt-MAGNITUDE_MOST in
+    let late = c.if-clock-gt-STAMP_MOST.false in
+    let last = c.if-last-eq-STAMP_MOST.false in
     looks_found _ _ _ _
-    (submission_full _ _ _ _ (undamaged_there (goal.at.returns c).Else-damaged)
-    (known (goal.at.returns c).Else-point-points) (there_is (goal.at.returns c).Else-not-exists) c.if-day-numbers.false
-    (suits (goal.at.returns c).Else-not-sign_suits) (small (goal.at.returns c).Else-magnitude-gt-MAGNITUDE_MOST) c.if-clock-gt-STAMP_MOST.false
-    c.if-last-eq-STAMP_MOST.false)
-    (submission_accepted _ _ _ _ (undamaged_there (goal.at.returns c).Else-damaged)
-    (known (goal.at.returns c).Else-point-points) (there_is (goal.at.returns c).Else-not-exists) c.if-day-numbers.false
-    (suits (goal.at.returns c).Else-not-sign_suits) (small (goal.at.returns c).Else-magnitude-gt-MAGNITUDE_MOST) c.if-clock-gt-STAMP_MOST.false
-    c.if-last-eq-STAMP_MOST.false)
+    (submission_full _ _ _ _ sound code quarter c.if-day-numbers.false sign size late last)
+    (submission_accepted _ _ _ _ sound code quarter c.if-day-numbers.false sign size late last)
     _ _ _ _ _ c.settle.ensures c.shown-found.ensures
     (measured (goal.at.returns c).Else-magnitude-gt-MAGNITUDE_MOST)
     (ap (λ (n : ℕ). length a.journal.now - 3 * n) (sym (length_entries a.numbers.entries a.journal.now)))
