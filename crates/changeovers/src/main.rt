@@ -1,7 +1,8 @@
 // Prints the table of changeover days to standard output, one number to a line, right-justified in 6.
 #![tactic(auto)]
 
-ghost use Rattle.std.specs.Prelude.{◌≡◌, ◌+◌, ◌≤◌, ◌<◌, length};
+ghost use Rattle.std.specs.Prelude.{◌≡◌, ◌+◌, ◌≤◌, ◌<◌, length, OnOk};
+ghost use Rattle.std.specs.Io.KnownBytes.{Appends};
 ghost use Rattle.lists.specs.Place.{Put};
 ghost use Rattle.calendar.specs.Changeovers.{changeover_count};
 ghost use Rattle.changeovers.specs.Text.{line_bytes, changeover_line, text_bytes, changeover_text};
@@ -38,8 +39,15 @@ fn put_lines(out: &mut [u8])
     }
 }
 
-fn main(rt: HostRuntime) -> io::Result<()> {
+// Writes the lines of all entries.
+fn print_table<W: Write>(writer: &mut W) -> io::Result<()>
+    ensures { OnOk result (Appends (W.contents writer.old) (W.contents writer.new) changeover_text) }
+{
     let mut out = [0; TEXT_BYTES];
     put_lines(&mut out);
-    rt.stdout().write_all(&out)
+    writer.write_all(&out)
+}
+
+fn main(rt: HostRuntime) -> io::Result<()> {
+    print_table(&mut rt.stdout())
 }

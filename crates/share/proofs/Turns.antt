@@ -24,17 +24,17 @@ use Rattle.event_text.proofs.Laws.{answered_by_lines, shared_from_events}
 use Rattle.share.proofs.Written.{Written}
 
 -- the opening's verdict is that of the input
-verdict_opened : (verdict : Verdict) (input : List ℕ) → (opened_if verdict input).verdict ≡ verdict
+pub verdict_opened : (verdict : Verdict) (input : List ℕ) → (opened_if verdict input).verdict ≡ verdict
 verdict_opened Accepted input = refl
 verdict_opened (Refused refusal) input = refl
 
 -- at first no bytes are computed
 pub nothing_written : (input : List ℕ) (opened : Opened) → opened ≡ opened_of input → opened.verdict ≡ Accepted
-    → Written input opened.service (replicate 3000 0) opened.events
+    → Written input opened.service (replicate 3000 0) opened.events []
 nothing_written input opened e accepted =
     let verdict : opening_verdict input ≡ Accepted =
     sym (verdict_opened (opening_verdict input) input) ∙ ap (λ (o : Opened). o.verdict) (sym e) ∙ accepted in
-    rw e (record { bytes = []; whole = sym (shared_from_events input verdict) })
+    rw e (record { whole = sym (shared_from_events input verdict) })
 
 -- the answers to the lines from a place on are the reply to the line there, and then the answers to the lines after it
 line_then : (input : List ℕ) (s : Service) (j : List ℕ) (at end : ℕ) → at < length input → end ≡ line_end input at
@@ -50,23 +50,22 @@ unfolding placed
 front bytes buffer = take-append_seam bytes (drop (0 + length bytes) buffer)
 
 -- a turn adds the front of the buffer, and goes on with record and journal as the answer left them
-pub one_more : (input : List ℕ) (s : Service) (j : List ℕ) (at : ℕ) → Written input s j at → at < length input → (end : ℕ) → end ≡ line_end input at
+pub one_more : (input : List ℕ) (s : Service) (j : List ℕ) (at : ℕ) (bytes : List ℕ) → Written input s j at bytes → at < length input → (end : ℕ) → end ≡ line_end input at
     → (buffer : List ℕ) → answer_most ≤ length buffer → (answered : Answered) (j' buffer' : List ℕ)
-    → Answers s j (take (end - at) (drop at input)) buffer answered j' buffer' → Written input (with_state s answered.state) j' end
+    → Answers s j (take (end - at) (drop at input)) buffer answered j' buffer' → Written input (with_state s answered.state) j' end (bytes ++ take answered.bytes buffer')
 unfolding room_verdict refuse◌if◌else◌
-one_more input s j at w h end e buffer long answered j' buffer' p =
+one_more input s j at bytes w h end e buffer long answered j' buffer' p =
     let line = take (end - at) (drop at input) in
     let q = rw (le-ltb (length buffer) answer_most long) at p in
     let added : take answered.bytes buffer' ≡ (reply_to s j line).bytes = rw (q.bytes, q.out) (front (reply_to s j line).bytes buffer) in
     record {
-      bytes = w.bytes ++ take answered.bytes buffer';
       whole =
           rw (added, q.service, q.journal, append_assoc, ← line_then input s j at end h e) w.whole;
     }
 
 -- at the end of the input the bytes computed are all that `share` gives
-pub all_written : (input : List ℕ) (s : Service) (j : List ℕ) (at : ℕ) (w : Written input s j at) → length input ≤ at → w.bytes ≡ share input
+pub all_written : (input : List ℕ) (s : Service) (j : List ℕ) (at : ℕ) (bytes : List ℕ) → Written input s j at bytes → length input ≤ at → bytes ≡ share input
 unfolding answers_to
-all_written input s j at w h =
+all_written input s j at bytes w h =
     let none : answers_to s j (lines_of (drop at input)) ≡ [] = rw (drop_of_length-le input h, lines_none) in
-    sym (append-nil w.bytes) ∙ ap (λ (text : List ℕ). w.bytes ++ text) (sym none) ∙ w.whole
+    sym (append-nil bytes) ∙ ap (λ (text : List ℕ). bytes ++ text) (sym none) ∙ w.whole

@@ -7,6 +7,5 @@ use Rattle.service.specs.declared.Service.{Service}
 use Rattle.event_text.specs.Share.{lines_of, answers_to, share}
 
 -- the bytes computed so far and the answers still to come make up what `share` gives for the input
-pub record Written (input : List ℕ) (service : Service) (journal : List ℕ) (at : ℕ) : Type 0 where
-  pub bytes : List ℕ
+pub record Written (input : List ℕ) (service : Service) (journal : List ℕ) (at : ℕ) (bytes : List ℕ) : Type 0 where
   pub whole : bytes ++ answers_to service journal (lines_of (drop at input)) ≡ share input

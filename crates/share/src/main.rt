@@ -1,9 +1,11 @@
 // Reads a registration and lines of events from standard input, and writes the answer to each line to standard output.
 #![tactic(auto)]
 
-ghost use Rattle.std.specs.Prelude.{◌≡◌, ◌≤◌, length, IfOk};
+ghost use Rattle.std.specs.Prelude.{◌≡◌, ◌≤◌, ◌<◌, length, take, IfOk, OnOk, IfSome};
+ghost use Rattle.std.specs.Io.KnownBytes.{Appends, Consumes, IsAtEnd};
 ghost use Rattle.answers.specs.declared.Verdict.TheVariants.{Accepted as AcceptedInput};
 ghost use Rattle.event_text.specs.Promises.{opened_of};
+ghost use Rattle.event_text.specs.Share.{share};
 
 use answers::Verdict;
 use event_text::Opened;
@@ -15,7 +17,9 @@ const JOURNAL_NUMBERS: usize = 3000;
 
 // Fills a space from the front with what a reader gives, as far as either goes, and says how many bytes that is.
 fn read_full<R: Read>(reader: &mut R, space: &mut [u8]) -> io::Result<usize>
-    ensures { IfOk result (λ count. count ≤ length space.new) }
+    ensures within { IfOk result (λ count. count ≤ length space.new) }
+    ensures bytes { IfOk result (λ count. Consumes (R.remaining reader.old) (R.remaining reader.new) (take count space.new)) }
+    ensures whole { IfOk result (λ count. count < length space.new → IsAtEnd (R.remaining reader.new)) }
 {
     let mut count = 0;
     while count < space.len() {
@@ -31,6 +35,7 @@ fn read_full<R: Read>(reader: &mut R, space: &mut [u8]) -> io::Result<usize>
 // Answers the lines of an input one after the other, each by record and journal as the one before left them.
 fn answer_lines<W: Write>(writer: &mut W, input: &[u8], opened: Opened) -> io::Result<()>
     requires { (opened ≡ opened_of input.now) × (opened.verdict ≡ AcceptedInput) }
+    ensures { OnOk result (Appends (W.contents writer.old) (W.contents writer.new) (share input.now)) }
 {
     let mut journal = [0; JOURNAL_NUMBERS];
     let mut out = [0; event_text::ANSWER_MOST];
@@ -48,16 +53,22 @@ fn answer_lines<W: Write>(writer: &mut W, input: &[u8], opened: Opened) -> io::R
     Ok(())
 }
 
-fn main(rt: HostRuntime) -> io::Result<()> {
+// Reads all that a reader gives, up to a byte more than an input may have, and writes the answer: for a text that the reader has left, `share` of it.
+fn run<R: Read, W: Write>(reader: &mut R, writer: &mut W) -> io::Result<()>
+    ensures { OnOk result (IfSome (R.remaining reader.old) (λ text. Appends (W.contents writer.old) (W.contents writer.new) (share text))) }
+{
     let mut space = [0; event_text::INPUT_MOST + 1];
-    let count = read_full(&mut rt.stdin(), &mut space)?;
+    let count = read_full(reader, &mut space)?;
     let input = &space[..count];
-    let mut writer = rt.stdout();
     let opened = event_text::open(input);
     let verdict = opened.verdict;
     if let Verdict::Refused(refusal) = verdict {
         let line = event_text::refusal_line(refusal);
         return writer.write_all(&line);
     }
-    answer_lines(&mut writer, input, opened)
+    answer_lines(writer, input, opened)
+}
+
+fn main(rt: HostRuntime) -> io::Result<()> {
+    run(&mut rt.stdin(), &mut rt.stdout())
 }
