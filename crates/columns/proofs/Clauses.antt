@@ -3,7 +3,7 @@ use Prim.Native.Nat.{ℕ, suc, ◌+◌, ◌-◌, ◌*◌, ◌/◌, ◌%◌, ◌^
 use mathlib.Core.Path.{◌≡◌, refl}
 use mathlib.Core.Bool.{Bool, true, false, not, ◌&&◌, ◌||◌}
 use mathlib.Core.List.{List, [], ◌∷◌, ◌++◌}
-use mathlib.Core.Option.{some}
+use Rattle.std.specs.Prelude.{Some}
 use lib.Dec.{leb, ltb, eqb}
 use lib.ListN.{take, drop}
 use Rattle.columns.specs.Column.{byte_before, lead_of, column_of, digit_of, value_from, same_bytes, has_minus, number_in, widest}
@@ -45,7 +45,7 @@ pub columns_of_cons : (w n : ℕ) (ws ns : List ℕ) → columns_of (w ∷ ws) (
 unfolding columns_of
 columns_of_cons w n ws ns = refl
 
-pub numbers_in_nil : (bytes : List ℕ) → numbers_in [] bytes ≡ some []
+pub numbers_in_nil : (bytes : List ℕ) → numbers_in [] bytes ≡ Some []
 unfolding numbers_in
 numbers_in_nil bytes = refl
 

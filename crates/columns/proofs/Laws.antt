@@ -3,7 +3,7 @@ use Prim.Native.Nat.{ℕ, zero, suc, ◌+◌, ◌-◌, ◌^◌, ◌≤◌, ◌<�
 use mathlib.Core.Path.{◌≡◌, refl, sym, ap, ◌∙◌}
 use mathlib.Core.Bool.{Bool, true, false, cond, not, ◌&&◌}
 use mathlib.Core.List.{List, [], ◌∷◌, ◌++◌, append_assoc}
-use mathlib.Core.Option.{Option, none, some}
+use Rattle.std.specs.Prelude.{Option, None, Some}
 use native.Mathlib.Omega.{arith}
 use native.Mathlib.Numerals.{sub-one}
 use borrow.Author.Tests.{le-leb, eqb-true, leb-true}
@@ -181,13 +181,13 @@ record Parts (first : Number) (rest : Option (List ℕ)) (numbers : List ℕ) : 
   n : ℕ
   ns : List ℕ
   number : first ≡ Is n
-  others : rest ≡ some ns
+  others : rest ≡ Some ns
   all : numbers ≡ n ∷ ns
 
-parts : (first : Number) (rest : Option (List ℕ)) (numbers : List ℕ) → with_first first rest ≡ some numbers → Parts first rest numbers
+parts : (first : Number) (rest : Option (List ℕ)) (numbers : List ℕ) → with_first first rest ≡ Some numbers → Parts first rest numbers
 parts Bad rest numbers e = let z : ◌≡◌ {A = ℕ} 0 1 = cc in absurd (omega arith)
-parts (Is n) none numbers e = let z : ◌≡◌ {A = ℕ} 0 1 = cc in absurd (omega arith)
-parts (Is n) (some ns) numbers e = record { n = n; ns = ns; number = refl; others = refl; all = cc }
+parts (Is n) None numbers e = let z : ◌≡◌ {A = ℕ} 0 1 = cc in absurd (omega arith)
+parts (Is n) (Some ns) numbers e = record { n = n; ns = ns; number = refl; others = refl; all = cc }
 
 pub fields_written_again : FieldsWrittenAgain
 fields_written_again [] bytes numbers l e =

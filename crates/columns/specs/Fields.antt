@@ -1,6 +1,5 @@
 -- Several numbers, each in a column of its own width, one after the other. Assumes nothing.
-use Rattle.std.specs.Prelude.{ℕ, ◌+◌, ◌-◌, ◌^◌, Bool, true, false, ◌&&◌, List, [], ◌∷◌, ◌++◌, take, drop, get_or, leb, ltb}
-use Rattle.std.proofs.Math.Option.{Option, none, some}
+use Rattle.std.specs.Prelude.{ℕ, ◌+◌, ◌-◌, ◌^◌, Bool, true, false, ◌&&◌, List, [], ◌∷◌, ◌++◌, take, drop, get_or, leb, ltb, Option, None, Some}
 use Rattle.columns.specs.declared.Number.{Number}
 use Rattle.columns.specs.declared.Number.TheVariants.{Is, Bad}
 use Rattle.columns.specs.Column.{column_of, number_in, widest}
@@ -18,24 +17,24 @@ columns_of (w ∷ ws) (n ∷ ns) = column_of false w n ++ columns_of ws ns
 
 -- a first number before the others, if all were in their columns
 abbrev pub with_first : Number → Option (List ℕ) → Option (List ℕ)
-with_first Bad rest = none
-with_first (Is n) none = none
-with_first (Is n) (some ns) = some (n ∷ ns)
+with_first Bad rest = None
+with_first (Is n) None = None
+with_first (Is n) (Some ns) = Some (n ∷ ns)
 
 -- the numbers in the columns of these widths at the front of the bytes, if each is in its column
 unfoldable pub numbers_in : List ℕ → List ℕ → Option (List ℕ)
-numbers_in [] bytes = some []
+numbers_in [] bytes = Some []
 numbers_in (w ∷ ws) bytes = with_first (number_in (take w bytes)) (numbers_in ws (drop w bytes))
 
 -- the k-th of the numbers, 0 where there is none
 abbrev pub nth : ℕ → Option (List ℕ) → ℕ
-nth k none = 0
-nth k (some ns) = get_or ns k 0
+nth k None = 0
+nth k (Some ns) = get_or ns k 0
 
 -- whether a number was not in its column
 abbrev pub is_none : Option (List ℕ) → Bool
-is_none none = true
-is_none (some ns) = false
+is_none None = true
+is_none (Some ns) = false
 
 -- each number fits its column, of 2 places to the widest
 unfoldable pub fitting : List ℕ → List ℕ → Bool

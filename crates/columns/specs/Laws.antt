@@ -1,6 +1,5 @@
 -- What columns promise, as statements; `proofs/Laws.antt` proves each, once over the width. Assumes nothing.
-use Rattle.std.specs.Prelude.{ℕ, ◌+◌, ◌-◌, ◌*◌, ◌^◌, ◌≤◌, ◌<◌, ◌≡◌, true, false, cond, List, [], ◌∷◌, ◌++◌, ℤ, pos, negsuc, nat_abs, length, get_or, take, replicate}
-use Rattle.std.proofs.Math.Option.{some}
+use Rattle.std.specs.Prelude.{ℕ, ◌+◌, ◌-◌, ◌*◌, ◌^◌, ◌≤◌, ◌<◌, ◌≡◌, true, false, cond, List, [], ◌∷◌, ◌++◌, ℤ, pos, negsuc, nat_abs, length, get_or, take, replicate, Some}
 use Rattle.values.specs.Values.{is_negative}
 use Rattle.columns.specs.declared.Number.TheVariants.{Is}
 use Rattle.columns.specs.declared.Signed.TheVariants.{Is as IsSigned}
@@ -80,10 +79,10 @@ SignedReadLooks =
 -- numbers that fit are read back from their columns, whatever follows
 abbrev pub FieldsReadBack : Type 0
 FieldsReadBack =
-    (widths numbers rest : List ℕ) → fitting widths numbers ≡ true → numbers_in widths (columns_of widths numbers ++ rest) ≡ some numbers
+    (widths numbers rest : List ℕ) → fitting widths numbers ≡ true → numbers_in widths (columns_of widths numbers ++ rest) ≡ Some numbers
 
 -- bytes that are read as numbers begin with the columns of these numbers, and the numbers fit
 abbrev pub FieldsWrittenAgain : Type 0
 FieldsWrittenAgain =
-    (widths bytes numbers : List ℕ) → total widths ≤ length bytes → numbers_in widths bytes ≡ some numbers
+    (widths bytes numbers : List ℕ) → total widths ≤ length bytes → numbers_in widths bytes ≡ Some numbers
     → (columns_of widths numbers ≡ take (total widths) bytes) × (fitting widths numbers ≡ true)

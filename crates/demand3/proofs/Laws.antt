@@ -4,7 +4,7 @@ use mathlib.Core.Bool.{true, false, true≢false}
 use mathlib.Core.Logic.{⊎_elim}
 use mathlib.Core.List.Memᴰ
 use mathlib.Core.List.{List, [], ◌∷◌, map, Memᴰ}
-use mathlib.Core.Option.{Option, none, some}
+use Rattle.std.specs.Prelude.{Option, None, Some}
 use lib.Dec.{eqb}
 use borrow.Author.Tests.{eqb-true, eq-eqb}
 use Rattle.lists.specs.Those.{those}
@@ -70,9 +70,9 @@ module _ (page : Page) (m : Measurement) where
   for note k = cc (eq-eqb _ _ k.code, eq-eqb _ _ k.day, eq-eqb _ _ k.quarter)
 
   finds : (o : Option Reading) → FindsGreatest (map reading_of notes) o → FindsNewest page m o
-  finds none h =
+  finds None h =
       λ note a k. absurd (Memᴰ.not-nil (rw h at (reading_among notes note (among_those _ note page.notes a (for note k)))))
-  finds (some newest) h =
+  finds (Some newest) h =
       let k = has notes newest h.among in
       record {
         note = k.note;

@@ -1,7 +1,6 @@
 -- The book of demand 3: it is fed the arguments of each call and whether the call was refused, and takes nothing from record or journal. Its last
 -- stamp stands beside the page that holds registration and readings. Assumes nothing.
-use Rattle.std.specs.Prelude.{ℕ, Bool, true, false, cond, ◌&&◌, List, [], ◌∷◌, ◌++◌, map, eqb}
-use Rattle.std.proofs.Math.Option.{Option}
+use Rattle.std.specs.Prelude.{ℕ, Bool, true, false, cond, ◌&&◌, List, [], ◌∷◌, ◌++◌, map, eqb, Option}
 use Rattle.registration.specs.declared.Registration.{Registration}
 use Rattle.values.specs.declared.Measurement.{Measurement}
 use Rattle.journal.specs.Value.{value_of}

@@ -1,7 +1,6 @@
 -- What a reader of the book relies on, stated of its definitions; the proofs stand in proofs/Laws.antt. Assumes nothing.
-use Rattle.std.specs.Prelude.{◌≤◌, ◌≡◌}
+use Rattle.std.specs.Prelude.{◌≤◌, ◌≡◌, Option, None, Some}
 use mathlib.Core.List.{Memᴰ}
-use Rattle.std.proofs.Math.Option.{Option, none, some}
 use Rattle.values.specs.declared.Measurement.{Measurement}
 use Rattle.journal.specs.Order.{Reading}
 use Rattle.demand3.specs.Book.{Note, Page, newest_noted}
@@ -22,8 +21,8 @@ pub record IsNewestNoted (page : Page) (m : Measurement) (newest : Reading) : Ty
 
 -- what is found is the newest; nothing is found only where no note is of that code, day and quarter
 abbrev pub FindsNewest : Page → Measurement → Option Reading → Type 0
-FindsNewest page m none = (note : Note) → Memᴰ note page.notes → IsOf m note → ⊥
-FindsNewest page m (some newest) = IsNewestNoted page m newest
+FindsNewest page m None = (note : Note) → Memᴰ note page.notes → IsOf m note → ⊥
+FindsNewest page m (Some newest) = IsNewestNoted page m newest
 
 -- of every page and measurement, in whatever order the notes stand
 abbrev pub NewestNotedIsNewest : Type 0

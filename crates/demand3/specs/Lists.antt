@@ -1,7 +1,5 @@
 -- Claims about every list of calls, whatever is called and whatever the book. Assumes nothing.
-use Rattle.std.specs.Prelude.{ℕ, ◌≡◌, Bool, false, List, [], ◌∷◌}
-use Rattle.std.proofs.Math.Option.{some}
-use Rattle.std.proofs.Math.ListN.{get_elem?}
+use Rattle.std.specs.Prelude.{ℕ, ◌≡◌, Bool, false, List, [], ◌∷◌, Some, slice_get}
 
 -- what is seen of each call of a list: each gets the state as the one before left it
 unfoldable pub run : {State Call Seen : Type 0} → (State → Call → Seen) → (State → Call → State) → State → List Call → List Seen
@@ -18,4 +16,4 @@ AllRight refused after Right book (call ∷ calls) (a ∷ seen) =
 
 -- call number i of the list, from 0, and what was seen of it
 abbrev pub Made : {Call Seen : Type 0} → List Call → List Seen → ℕ → Call → Seen → Type 0
-Made calls seen i call a = (get_elem? calls i ≡ some call) × (get_elem? seen i ≡ some a)
+Made calls seen i call a = (slice_get calls i ≡ Some call) × (slice_get seen i ≡ Some a)

@@ -2,7 +2,7 @@
 use Prim.Native.Nat.{ℕ, ◌+◌, ◌≤◌}
 use mathlib.Core.Path.{◌≡◌, refl, sym, ap, ◌∙◌}
 use mathlib.Core.List.{List, ◌++◌, append-nil}
-use mathlib.Core.Option.{none, some}
+use Rattle.std.specs.Prelude.{None, Some}
 use native.Mathlib.Nat.{zero-add}
 use native.Mathlib.Omega.{arith}
 use lib.IntN.{ℤ}
@@ -66,10 +66,10 @@ accepted_put r seen e h p q =
 -- ---- the call that a line asks for
 
 -- a date that does not exist, and the day of one that does
-pub no_call_lem : {d : Day} (date : ℕ) (call : ℕ → Call) → d ≡ day_of date → d ≡ Missing → on_day (day_of date) call ≡ none
+pub no_call_lem : {d : Day} (date : ℕ) (call : ℕ → Call) → d ≡ day_of date → d ≡ Missing → on_day (day_of date) call ≡ None
 no_call_lem date call e f = rw (sym e ∙ f)
 
-pub call_on_lem : {d : Day} (date : ℕ) {day : ℕ} (call : ℕ → Call) → d ≡ day_of date → d ≡ Is day → on_day (day_of date) call ≡ some (call day)
+pub call_on_lem : {d : Day} (date : ℕ) {day : ℕ} (call : ℕ → Call) → d ≡ day_of date → d ≡ Is day → on_day (day_of date) call ≡ Some (call day)
 call_on_lem date call e f = rw (sym e ∙ f)
 
 -- ---- the reply
@@ -85,7 +85,7 @@ refusal_written p e = rw e (p, refl)
 
 module _ (s : Service) (j : List ℕ) (event : Event) {n : ℕ} {buffer buffer' : List ℕ} {answered : Answered} where
   -- a line that asks for no call
-  pub replies_refusal : call_of event ≡ none → Put 0 (refusal_text event) buffer buffer' n → answered ≡ answered_by s.state n
+  pub replies_refusal : call_of event ≡ None → Put 0 (refusal_text event) buffer buffer' n → answered ≡ answered_by s.state n
       → Replies Accepted (reply_of s j event) s buffer answered j buffer'
   replies_refusal e p k =
       rw (k, e)
@@ -98,7 +98,7 @@ module _ (s : Service) (j : List ℕ) (event : Event) {n : ℕ} {buffer buffer' 
       })
 
   -- a line whose call was made
-  pub replies_call : (call : Call) (state : State) {j' : List ℕ} → call_of event ≡ some call
+  pub replies_call : (call : Call) (state : State) {j' : List ℕ} → call_of event ≡ Some call
       → with_state s state ≡ (call_on s j call).service → j' ≡ (call_on s j call).journal
       → Put 0 (call_text s.registration call (call_on s j call).seen) buffer buffer' n → answered ≡ answered_by state n
       → Replies Accepted (reply_of s j event) s buffer answered j' buffer'

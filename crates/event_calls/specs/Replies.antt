@@ -1,6 +1,5 @@
 -- What a line does to record and journal, and the bytes that answer it: 1, then 9 for the date, then the call's own order. Assumes nothing.
-use Rattle.std.specs.Prelude.{ℕ, List, [], ◌++◌, ℤ, replicate}
-use Rattle.std.proofs.Math.Option.{Option, none, some}
+use Rattle.std.specs.Prelude.{ℕ, List, [], ◌++◌, ℤ, replicate, Option, None, Some}
 use Rattle.answers.specs.declared.Refusal.TheVariants.{NotInColumns, NoSuchDay}
 use Rattle.answers.specs.declared.Verdict.{Verdict}
 use Rattle.answers.specs.declared.Verdict.TheVariants.{Accepted, Refused}
@@ -28,8 +27,8 @@ result_list = replicate result_most 0
 
 -- a call on the day of a date, which may not exist
 abbrev pub on_day : Day → (ℕ → Call) → Option Call
-on_day Missing call = none
-on_day (Is day) call = some (call day)
+on_day Missing call = None
+on_day (Is day) call = Some (call day)
 
 -- what an M line measures, on the day of its date
 abbrev pub measured : (code quarter : ℕ) → ℤ → (day : ℕ) → Measurement
@@ -40,7 +39,7 @@ abbrev pub call_of : Event → Option Call
 call_of (Submission clock code date quarter value) = on_day (day_of date) (λ day. Submit clock (measured code quarter value day))
 call_of (Clear date stamp) = on_day (day_of date) (λ day. ClearUp day stamp)
 call_of (Evaluation date quarter T) = on_day (day_of date) (λ day. Evaluate day quarter T result_list)
-call_of Malformed = none
+call_of Malformed = None
 
 -- ---- the text that answers it
 
@@ -90,8 +89,8 @@ one_call s j call =
 
 -- the reply to what a line asks for
 abbrev pub reply_with : Service → (journal : List ℕ) → Event → Option Call → Reply
-reply_with s j event none = no_call s j (refusal_text event)
-reply_with s j event (some call) = one_call s j call
+reply_with s j event None = no_call s j (refusal_text event)
+reply_with s j event (Some call) = one_call s j call
 
 -- the reply to an event
 abbrev pub reply_of : Service → (journal : List ℕ) → Event → Reply

@@ -4,7 +4,7 @@ use mathlib.Core.Path.{◌≡◌, refl, sym, ap, ◌∙◌}
 use mathlib.Core.Bool.{Bool, true, false, cond, ◌&&◌}
 use mathlib.Core.List.{List, [], ◌∷◌, ◌++◌, append_assoc}
 use mathlib.Core.Logic.{◌≢◌}
-use mathlib.Core.Option.{Option, none, some}
+use Rattle.std.specs.Prelude.{Option, None, Some}
 use native.Mathlib.Omega.{arith}
 use borrow.Author.Tests.{eqb-true}
 use lib.Dec.{eqb}
@@ -60,7 +60,7 @@ module _ (numbers : List ℕ) (value : ℤ) (fits : fitting widths_m numbers ≡
   frame : is_framed letter_m 55 (letter_m ∷ bytes) ≡ true
   frame = rw (length_bytes, last_byte)
 
-  submission_read : nat_abs value < 10 ^ digits 10 value → submission_in (letter_m ∷ bytes) ≡ submission_from (some numbers) (Is value)
+  submission_read : nat_abs value < 10 ^ digits 10 value → submission_in (letter_m ∷ bytes) ≡ submission_from (Some numbers) (Is value)
   submission_read h =
       framed (letter_m ∷ bytes) frame
       ∙ rw (
@@ -87,7 +87,7 @@ abbrev Again : List ℕ → Event → Type 0
 Again line event = event ≢ Malformed → (line_of_event event ≡ line) × Fits event
 
 -- a line that is read as numbers is the line of those numbers one by one, and they fit
-line_again : (letter : ℕ) (widths line ns : List ℕ) → line_in letter widths line ≡ some ns → let ms = listing (λ k. get_or ns k 0) (length widths) in
+line_again : (letter : ℕ) (widths line ns : List ℕ) → line_in letter widths line ≡ Some ns → let ms = listing (λ k. get_or ns k 0) (length widths) in
     (line_of letter widths ms ≡ line) × (fitting widths ms ≡ true)
 line_again letter widths line ns e =
     let w = line_written_again letter widths line ns e in
@@ -95,7 +95,7 @@ line_again letter widths line ns e =
     (ap (line_of letter widths) (sym all) ∙ sym w.0, ap (fitting widths) (sym all) ∙ w.1)
 
 -- an M line that is read as numbers and a value is their line, and they fit
-submission_written : (line ns : List ℕ) (value : ℤ) → is_framed letter_m 55 line ≡ true → numbers_in widths_m (drop 1 line) ≡ some ns
+submission_written : (line ns : List ℕ) (value : ℤ) → is_framed letter_m 55 line ≡ true → numbers_in widths_m (drop 1 line) ≡ Some ns
     → signed_in (take 10 (drop 46 line)) ≡ Is value
     → (letter_m ∷ (columns_of widths_m ns ++ (signed_column_of 10 value ++ (10 ∷ []))) ≡ line) × (fitting widths_m ns ≡ true) × (nat_abs value < 10 ^ digits 10 value)
 unfolding total
@@ -115,18 +115,18 @@ submission_written (byte ∷ bytes) ns value t e v =
 
 module _ (line : List ℕ) where
   clear_again : (o : Option (List ℕ)) → line_in letter_c widths_c line ≡ o → Again line (clear_from o)
-  clear_again none e h = absurd (h refl)
-  clear_again (some ns) e h = line_again letter_c widths_c line ns e
+  clear_again None e h = absurd (h refl)
+  clear_again (Some ns) e h = line_again letter_c widths_c line ns e
 
   evaluation_again : (o : Option (List ℕ)) → line_in letter_e widths_e line ≡ o → Again line (evaluation_from o)
-  evaluation_again none e h = absurd (h refl)
-  evaluation_again (some ns) e h = line_again letter_e widths_e line ns e
+  evaluation_again None e h = absurd (h refl)
+  evaluation_again (Some ns) e h = line_again letter_e widths_e line ns e
 
   submission_again : is_framed letter_m 55 line ≡ true → (o : Option (List ℕ)) (v : Signed) → numbers_in widths_m (drop 1 line) ≡ o
       → signed_in (take 10 (drop 46 line)) ≡ v → Again line (submission_from o v)
-  submission_again t none v e q h = absurd (h refl)
-  submission_again t (some ns) Bad e q h = absurd (h refl)
-  submission_again t (some ns) (Is value) e q h =
+  submission_again t None v e q h = absurd (h refl)
+  submission_again t (Some ns) Bad e q h = absurd (h refl)
+  submission_again t (Some ns) (Is value) e q h =
       let w = submission_written line ns value t e q in
       let four = listed 4 ns (sym (fitting_length widths_m ns w.1)) in (
         ap (λ (ms : List ℕ). letter_m ∷ (columns_of widths_m ms ++ (signed_column_of 10 value ++ (10 ∷ [])))) (sym four) ∙ w.0,

@@ -3,7 +3,7 @@ use Prim.Native.Nat.{ℕ, ◌+◌, ◌-◌}
 use mathlib.Core.Path.{◌≡◌, refl}
 use mathlib.Core.Bool.{true, false}
 use mathlib.Core.List.{List, [], ◌∷◌, ◌++◌}
-use mathlib.Core.Option.{Option, none, some}
+use Rattle.std.specs.Prelude.{Option, None, Some}
 use native.Mathlib.Omega.{arith}
 use borrow.Author.Tests.{ne_eqb}
 use lib.ListN.{length, get_or, take, drop}
@@ -20,20 +20,20 @@ use Rattle.event_reader.specs.Events.{letter_m, letter_c, letter_e, submission_f
 
 -- numbers and then others, if all were in their columns
 abbrev pub and_then : Option (List ℕ) → Option (List ℕ) → Option (List ℕ)
-and_then none others = none
-and_then (some ns) none = none
-and_then (some ns) (some ms) = some (ns ++ ms)
+and_then None others = None
+and_then (Some ns) None = None
+and_then (Some ns) (Some ms) = Some (ns ++ ms)
 
 -- no numbers, or one number, before others
-none_first : (others : Option (List ℕ)) → others ≡ and_then (some []) others
-none_first none = refl
-none_first (some ms) = refl
+none_first : (others : Option (List ℕ)) → others ≡ and_then (Some []) others
+none_first None = refl
+none_first (Some ms) = refl
 
 one_first : (n : Number) (ns others : Option (List ℕ)) → with_first n (and_then ns others) ≡ and_then (with_first n ns) others
 one_first Bad ns others = refl
-one_first (Is n) none others = refl
-one_first (Is n) (some ns) none = refl
-one_first (Is n) (some ns) (some ms) = refl
+one_first (Is n) None others = refl
+one_first (Is n) (Some ns) None = refl
+one_first (Is n) (Some ns) (Some ms) = refl
 
 -- the numbers in columns and then in others are those of the first columns, and those of the others after their bytes
 pub numbers_append : (ws vs bytes : List ℕ) → numbers_in (ws ++ vs) bytes ≡ and_then (numbers_in ws bytes) (numbers_in vs (drop (total ws) bytes))

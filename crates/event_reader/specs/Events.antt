@@ -1,6 +1,5 @@
 -- The lines of events: their letters, the widths of their columns, and what a line asks for. Assumes nothing.
-use Rattle.std.specs.Prelude.{ℕ, ◌+◌, cond, List, [], ◌∷◌, get_or, take, drop, eqb}
-use Rattle.std.proofs.Math.Option.{Option, none, some}
+use Rattle.std.specs.Prelude.{ℕ, ◌+◌, cond, List, [], ◌∷◌, get_or, take, drop, eqb, Option, None, Some}
 use Rattle.columns.specs.declared.Signed.{Signed}
 use Rattle.columns.specs.declared.Signed.TheVariants.{Is, Bad}
 use Rattle.columns.specs.Column.{signed_in}
@@ -39,9 +38,9 @@ widths_e = 9 ∷ 4 ∷ 13 ∷ []
 
 -- a submission, if its numbers and its value are in their columns
 abbrev pub submission_from : Option (List ℕ) → Signed → Event
-submission_from none value = Malformed
-submission_from (some numbers) Bad = Malformed
-submission_from (some numbers) (Is value) = Submission (get_or numbers 0 0) (get_or numbers 1 0) (get_or numbers 2 0) (get_or numbers 3 0) value
+submission_from None value = Malformed
+submission_from (Some numbers) Bad = Malformed
+submission_from (Some numbers) (Is value) = Submission (get_or numbers 0 0) (get_or numbers 1 0) (get_or numbers 2 0) (get_or numbers 3 0) value
 
 -- what an M line asks for: the letter, four numbers, the value, LF, and nothing else
 unfoldable pub submission_in : List ℕ → Event
@@ -52,8 +51,8 @@ submission_in line =
 
 -- a clear, if its numbers are in their columns
 abbrev pub clear_from : Option (List ℕ) → Event
-clear_from none = Malformed
-clear_from (some numbers) = Clear (get_or numbers 0 0) (get_or numbers 1 0)
+clear_from None = Malformed
+clear_from (Some numbers) = Clear (get_or numbers 0 0) (get_or numbers 1 0)
 
 -- what a C line asks for
 unfoldable pub clear_in : List ℕ → Event
@@ -61,8 +60,8 @@ clear_in line = clear_from (line_in letter_c widths_c line)
 
 -- an evaluation, if its numbers are in their columns
 abbrev pub evaluation_from : Option (List ℕ) → Event
-evaluation_from none = Malformed
-evaluation_from (some numbers) = Evaluation (get_or numbers 0 0) (get_or numbers 1 0) (get_or numbers 2 0)
+evaluation_from None = Malformed
+evaluation_from (Some numbers) = Evaluation (get_or numbers 0 0) (get_or numbers 1 0) (get_or numbers 2 0)
 
 -- what an E line asks for
 unfoldable pub evaluation_in : List ℕ → Event

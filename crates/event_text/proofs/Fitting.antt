@@ -2,7 +2,7 @@
 use Prim.Native.Nat.{ℕ, ◌+◌, ◌≤◌}
 use mathlib.Core.Path.{◌≡◌, refl, sym, ap, ◌∙◌}
 use mathlib.Core.List.{List}
-use mathlib.Core.Option.{Option, none, some}
+use Rattle.std.specs.Prelude.{Option, None, Some}
 use native.Mathlib.Omega.{arith}
 use borrow.Author.Tests.{ltb-false}
 use lib.Dec.{ltb}
@@ -59,14 +59,14 @@ evaluation_fits r seen small =
 
 -- the reply to an event, by the call that it asks for
 pub reply_fits : (s : Service) (j : List ℕ) (event : Event) (o : Option Call) → length (reply_with s j event o).bytes ≤ answer_most
-reply_fits s j event none = refusal_fits event
-reply_fits s j event (some (Submit clock m)) =
+reply_fits s j event None = refusal_fits event
+reply_fits s j event (Some (Submit clock m)) =
     let seen = (call_on s j (Submit clock m)).seen in
     answer_fits (answer_of seen.verdict) seen.number
-reply_fits s j event (some (ClearUp day stamp)) =
+reply_fits s j event (Some (ClearUp day stamp)) =
     let seen = (call_on s j (ClearUp day stamp)).seen in
     answer_fits (answer_of seen.verdict) seen.number
-reply_fits s j event (some (Evaluate day quarter T lent)) =
+reply_fits s j event (Some (Evaluate day quarter T lent)) =
     evaluation_fits s.registration (call_on s j (Evaluate day quarter T lent)).seen (evaluation_small s j day quarter T lent)
 
 -- a buffer that is not refused has room for the most that an answer takes

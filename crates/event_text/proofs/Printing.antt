@@ -2,7 +2,7 @@
 use Prim.Native.Nat.{ℕ}
 use mathlib.Core.Path.{◌≡◌, refl, ap, ◌∙◌}
 use mathlib.Core.List.{List, [], ◌∷◌, ◌++◌}
-use mathlib.Core.Option.{Option, none, some}
+use Rattle.std.specs.Prelude.{Option, None, Some}
 use Rattle.registration.specs.declared.Registration.{Registration}
 use Rattle.service.specs.declared.Service.{Service}
 use Rattle.service.specs.Call.{Call, Seen}
@@ -28,8 +28,8 @@ module _ (r : Registration) (lines : List (List ℕ))
       → (reply_with s j event o).bytes ++ answers_to (reply_with s j event o).service (reply_with s j event o).journal lines
       ≡ line_text r event o (seen_from s j (with_call o (calls_in lines))) ++ printed r lines (seen_later o (seen_from s j (with_call o (calls_in lines))))
   unfolding run
-  one_line none = ap (λ (text : List ℕ). refusal_text event ++ text) (later s j e)
-  one_line (some call) =
+  one_line None = ap (λ (text : List ℕ). refusal_text event ++ text) (later s j e)
+  one_line (Some call) =
       let left = call_on s j call in
       rw (later left.service left.journal ((length_stays s j call).1 ∙ e), e)
 

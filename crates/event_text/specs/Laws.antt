@@ -1,7 +1,6 @@
 -- What joins the code's functions to the definition of `share`, `share` to demand 3, and its numbers to their columns, as statements; `proofs/Laws.antt`
 -- proves each. Assumes nothing.
-use Rattle.std.specs.Prelude.{ℕ, ◌+◌, ◌≤◌, ◌<◌, ◌≡◌, true, List, [], ◌∷◌, ◌++◌, length, get_or, replicate, drop}
-use Rattle.std.proofs.Math.Option.{Option, none, some}
+use Rattle.std.specs.Prelude.{ℕ, ◌+◌, ◌≤◌, ◌<◌, ◌≡◌, true, List, [], ◌∷◌, ◌++◌, length, get_or, replicate, drop, Option, None, Some}
 use Rattle.answers.specs.declared.Verdict.TheVariants.{Accepted}
 use Rattle.answers.specs.Numbers.{answer_of}
 use Rattle.columns.specs.Fields.{fitting}
@@ -46,8 +45,8 @@ AnswersFit = (s : Service) (j line : List ℕ) → length (reply_to s j line).by
 
 -- a call, if there is one, before others
 abbrev pub with_call : Option Call → List Call → List Call
-with_call none calls = calls
-with_call (some call) calls = call ∷ calls
+with_call None calls = calls
+with_call (Some call) calls = call ∷ calls
 
 -- the calls that lines ask for, in turn
 unfoldable pub calls_in : List (List ℕ) → List Call
@@ -56,15 +55,15 @@ calls_in (line ∷ lines) = with_call (call_of (event_in line)) (calls_in lines)
 
 -- the answer to a line: from what is seen of the first of these calls, if it asks for one
 abbrev pub line_text : Registration → Event → Option Call → List Seen → List ℕ
-line_text r event none seen = refusal_text event
-line_text r event (some call) [] = []
-line_text r event (some call) (a ∷ seen) = call_text r call a
+line_text r event None seen = refusal_text event
+line_text r event (Some call) [] = []
+line_text r event (Some call) (a ∷ seen) = call_text r call a
 
 -- what is seen of the calls after a line
 abbrev pub seen_later : Option Call → List Seen → List Seen
-seen_later none seen = seen
-seen_later (some call) [] = []
-seen_later (some call) (a ∷ seen) = seen
+seen_later None seen = seen
+seen_later (Some call) [] = []
+seen_later (Some call) (a ∷ seen) = seen
 
 -- the answers to lines, from what is seen of their calls
 unfoldable pub printed : Registration → List (List ℕ) → List Seen → List ℕ

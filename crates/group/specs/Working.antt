@@ -1,6 +1,5 @@
 -- What the code finds out on the way to an answer. Assumes nothing.
-use Rattle.std.specs.Prelude.{ℕ, ◌≡◌, true, false, cond, ltb}
-use Rattle.std.proofs.Math.Option.{Option}
+use Rattle.std.specs.Prelude.{ℕ, ◌≡◌, true, false, cond, ltb, Option}
 use Rattle.answers.specs.declared.Refusal.{Refusal}
 use Rattle.answers.specs.declared.Refusal.TheVariants.{JournalFull}
 use Rattle.answers.specs.declared.Verdict.TheVariants.{Accepted, Refused}

@@ -6,7 +6,7 @@ use native.Mathlib.Numerals.{sub-one}
 use mathlib.Core.Path.{◌≡◌, refl, ◌∙◌}
 use mathlib.Core.Bool.{true, false, ◌&&◌}
 use mathlib.Core.List.{List, [], ◌∷◌, ◌++◌, append-nil}
-use mathlib.Core.Option.{some, none}
+use Rattle.std.specs.Prelude.{Some, None}
 use lib.Dec.{leb, eqb}
 use lib.ListN.{drop}
 use lib.Seq.{get_or-drop}
@@ -53,7 +53,7 @@ rising_last : (lo : ℕ) (rs : List Reading) (r : Reading) → Rising lo (rs ++ 
 rising_last lo [] r h = h.0
 rising_last lo (x ∷ rs) r h = omega (arith, rising_last x.stamp rs r h.1)
 
-pub shown_last : (T lo : ℕ) (rs : List Reading) (r : Reading) → Rising lo (rs ++ (r ∷ [])) → r.stamp ≤ T → shown T (rs ++ (r ∷ [])) ≡ some r
+pub shown_last : (T lo : ℕ) (rs : List Reading) (r : Reading) → Rising lo (rs ++ (r ∷ [])) → r.stamp ≤ T → shown T (rs ++ (r ∷ [])) ≡ Some r
 unfolding shown weaker
 shown_last T lo [] r h l = cc (within_time T r l)
 shown_last T lo (x ∷ rs) r h l =
@@ -77,7 +77,7 @@ module _ (T p : ℕ) (es : List Entry) (e : Entry) where
       (λ t. rw (last_elsewhere t))
 
   pub last_shows : Rising 0 (readings_at (es ++ (e ∷ [])) p) → eqb e.place p && leb e.stamp T ≡ true
-      → shown T (readings_at (es ++ (e ∷ [])) p) ≡ some (reading_of e)
+      → shown T (readings_at (es ++ (e ∷ [])) p) ≡ Some (reading_of e)
   last_shows r h =
       let here = last_here (and_left (eqb e.place p) (leb e.stamp T) h) in
       rw here (shown_last T 0 (readings_at es p) (reading_of e) (rw here at r) (leb-true e.stamp T (and_right (eqb e.place p) (leb e.stamp T) h)))
@@ -110,12 +110,12 @@ module _ (j : List ℕ) (count p T : ℕ) where
       }
 
   pub back_hit : (i : ℕ) → 0 < i → Back i → eqb (entry_at j (i - 1)).place p && leb (entry_at j (i - 1)).stamp T ≡ true
-      → shown T (readings_at (entries count j) p) ≡ some (reading_of (entry_at j (i - 1)))
+      → shown T (readings_at (entries count j) p) ≡ Some (reading_of (entry_at j (i - 1)))
   back_hit i h b t =
       let s = entries_back i j h in
       b.same ∙ rw s (last_shows T p (entries (i - 1) j) (entry_at j (i - 1)) (rw s at b.rising) t)
 
-  pub back_end : (i : ℕ) → i ≤ 0 → Back i → shown T (readings_at (entries count j) p) ≡ none
+  pub back_end : (i : ℕ) → i ≤ 0 → Back i → shown T (readings_at (entries count j) p) ≡ None
   back_end i h b =
       let z : i ≡ 0 = omega arith in
       b.same ∙ rw (z, entries_none j) (shown_nil T)

@@ -2,7 +2,7 @@
 use Prim.Native.Nat.{ℕ}
 use mathlib.Core.Path.{◌≡◌, refl}
 use mathlib.Core.List.{List, [], ◌∷◌}
-use mathlib.Core.Option.{none, some}
+use Rattle.std.specs.Prelude.{None, Some}
 use Rattle.journal.specs.Order.{Reading, weaker}
 use Rattle.journal.specs.Readings.{strongest, shown}
 use Rattle.journal.specs.Entries.{Entry, keep}
@@ -16,24 +16,24 @@ abbrev three : List Reading
 three = reading 5 70 ∷ reading 9 30 ∷ reading 12 50 ∷ []
 
 -- the newest of no readings, of one, of three, and of three that stand in another order
-newest : (strongest [] ≡ none)
-    × (strongest (reading 5 70 ∷ []) ≡ some (reading 5 70))
-    × (strongest three ≡ some (reading 12 50))
-    × (strongest (reading 5 70 ∷ reading 12 50 ∷ reading 9 30 ∷ []) ≡ some (reading 12 50))
-    × (strongest (reading 12 50 ∷ reading 5 70 ∷ reading 9 30 ∷ []) ≡ some (reading 12 50))
+newest : (strongest [] ≡ None)
+    × (strongest (reading 5 70 ∷ []) ≡ Some (reading 5 70))
+    × (strongest three ≡ Some (reading 12 50))
+    × (strongest (reading 5 70 ∷ reading 12 50 ∷ reading 9 30 ∷ []) ≡ Some (reading 12 50))
+    × (strongest (reading 12 50 ∷ reading 5 70 ∷ reading 9 30 ∷ []) ≡ Some (reading 12 50))
 unfolding weaker
 newest = (refl, refl, refl, refl, refl)
 
 -- as of a stamp below all, as of that of each, between two, above all; where the newest one stands first; and where there is none
-as_of_lem : (shown 4 three ≡ none)
-    × (shown 5 three ≡ some (reading 5 70))
-    × (shown 8 three ≡ some (reading 5 70))
-    × (shown 9 three ≡ some (reading 9 30))
-    × (shown 11 three ≡ some (reading 9 30))
-    × (shown 12 three ≡ some (reading 12 50))
-    × (shown 999999999999 three ≡ some (reading 12 50))
-    × (shown 11 (reading 12 50 ∷ reading 9 30 ∷ reading 5 70 ∷ []) ≡ some (reading 9 30))
-    × (shown 9 [] ≡ none)
+as_of_lem : (shown 4 three ≡ None)
+    × (shown 5 three ≡ Some (reading 5 70))
+    × (shown 8 three ≡ Some (reading 5 70))
+    × (shown 9 three ≡ Some (reading 9 30))
+    × (shown 11 three ≡ Some (reading 9 30))
+    × (shown 12 three ≡ Some (reading 12 50))
+    × (shown 999999999999 three ≡ Some (reading 12 50))
+    × (shown 11 (reading 12 50 ∷ reading 9 30 ∷ reading 5 70 ∷ []) ≡ Some (reading 9 30))
+    × (shown 9 [] ≡ None)
 unfolding shown weaker
 as_of_lem = (refl, refl, refl, refl, refl, refl, refl, refl, refl)
 

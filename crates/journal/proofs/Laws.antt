@@ -3,7 +3,7 @@ use Prim.Native.Nat.{ℕ, zero, suc}
 use mathlib.Core.Path.{◌≡◌, refl, ap}
 use mathlib.Core.Bool.{true, false, false≢true}
 use mathlib.Core.List.{List}
-use mathlib.Core.Option.{Option, none, some}
+use Rattle.std.specs.Prelude.{Option, None, Some}
 use native.Mathlib.Omega.{arith}
 use lib.IntN.{pos, neg_ℤ, nat_abs}
 use lib.Dec.{leb, ltb}
@@ -36,8 +36,8 @@ same_is_same_magnitude = (λ r value. (λ e. omega (arith, eqb-true), λ e. omeg
 -- a reading gives way only to one with a stamp at least as great
 greatest_told : (rs : List Reading) (o : Option Reading) → FindsStrongest rs o → FindsGreatest rs o
 unfolding weaker
-greatest_told rs none h = h
-greatest_told rs (some m) h = record { among = h.among; greatest = λ r a. leb-true r.stamp m.stamp (h.over r a) }
+greatest_told rs None h = h
+greatest_told rs (Some m) h = record { among = h.among; greatest = λ r a. leb-true r.stamp m.stamp (h.over r a) }
 
 pub strongest_is_newest : StrongestIsNewest
 strongest_is_newest rs = greatest_told rs (strongest rs) (finds_strongest rs)
@@ -45,8 +45,8 @@ strongest_is_newest rs = greatest_told rs (strongest rs) (finds_strongest rs)
 -- the same of those in time
 newest_told : (T : ℕ) (rs : List Reading) (o : Option Reading) → Tells T rs o → ShowsNewest T rs o
 unfolding weaker
-newest_told T rs none h = h
-newest_told T rs (some m) h =
+newest_told T rs None h = h
+newest_told T rs (Some m) h =
     record { among = h.among; within_time = h.within_time; greatest = λ r a l. leb-true r.stamp m.stamp (h.over r a l) }
 
 pub shown_is_newest : ShownIsNewest

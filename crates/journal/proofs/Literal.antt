@@ -4,7 +4,7 @@ use mathlib.Core.Path.{◌≡◌}
 use mathlib.Core.Bool.{true}
 use mathlib.Core.List.Memᴰ
 use mathlib.Core.List.{List, Memᴰ}
-use mathlib.Core.Option.{Option, none, some}
+use Rattle.std.specs.Prelude.{Option, None, Some}
 use Rattle.journal.specs.Order.{Reading, weaker}
 use Rattle.journal.specs.Readings.{strongest, in_time, as_of, shown}
 use Rattle.lists.proofs.Cases.{by_test}
@@ -19,14 +19,14 @@ pub record IsShown (T : ℕ) (rs : List Reading) (m : Reading) : Type 0 where
   pub over : (r : Reading) → Memᴰ r rs → r.stamp ≤ T → weaker r m ≡ true
 
 abbrev pub Tells : ℕ → List Reading → Option Reading → Type 0
-Tells T rs none = (r : Reading) → Memᴰ r rs → T < r.stamp
-Tells T rs (some m) = IsShown T rs m
+Tells T rs None = (r : Reading) → Memᴰ r rs → T < r.stamp
+Tells T rs (Some m) = IsShown T rs m
 
 -- the strongest of those in time
 tells : (T : ℕ) (rs : List Reading) (o : Option Reading) → FindsStrongest (as_of T rs) o → Tells T rs o
-tells T rs none h =
+tells T rs None h =
     λ r m. by_test (in_time T r) (λ t. absurd (Memᴰ.not-nil (rw h at (among_those (in_time T) r rs m t)))) (λ t. late_told T r t)
-tells T rs (some s) h =
+tells T rs (Some s) h =
     record {
       among = those_among (in_time T) s rs h.among;
       within_time = in_time_told T s (those_pass (in_time T) s rs h.among);

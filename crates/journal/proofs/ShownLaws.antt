@@ -6,7 +6,7 @@ use mathlib.Core.Bool.{Bool, ◌||◌, true≢false}
 use mathlib.Core.Logic.{⊎_elim}
 use mathlib.Core.List.Memᴰ
 use mathlib.Core.List.{List, [], ◌∷◌, ◌++◌, Memᴰ}
-use mathlib.Core.Option.{Option, none, some}
+use Rattle.std.specs.Prelude.{Option, None, Some}
 use lib.Dec.{ltb}
 use borrow.Author.Tests.{lt-ltb, le-ltb, eq-eqb, ne_eqb}
 use Rattle.journal.specs.Order.{Reading, weaker}
@@ -50,30 +50,30 @@ prefer_assoc a b c =
     (λ t. absurd (true≢false (sym (weaker_trans a c b t (weaker_total b c q)) ∙ p)))
     (λ t. cc)))
 
-join_none : (o : Option Reading) → join o none ≡ o
-join_none none = refl
-join_none (some r) = refl
+join_none : (o : Option Reading) → join o None ≡ o
+join_none None = refl
+join_none (Some r) = refl
 
 join_assoc : (a b c : Option Reading) → join (join a b) c ≡ join a (join b c)
-join_assoc none b c = refl
-join_assoc (some r) none c = refl
-join_assoc (some r) (some s) none = refl
-join_assoc (some r) (some s) (some t) = ap {B = Option Reading} some (prefer_assoc r s t)
+join_assoc None b c = refl
+join_assoc (Some r) None c = refl
+join_assoc (Some r) (Some s) None = refl
+join_assoc (Some r) (Some s) (Some t) = ap {B = Option Reading} Some (prefer_assoc r s t)
 
 strongest_append : (rs ss : List Reading) → strongest (rs ++ ss) ≡ join (strongest rs) (strongest ss)
 strongest_append [] ss = refl
-strongest_append (r ∷ rs) ss = ap (join (some r)) (strongest_append rs ss) ∙ sym (join_assoc (some r) (strongest rs) (strongest ss))
+strongest_append (r ∷ rs) ss = ap (join (Some r)) (strongest_append rs ss) ∙ sym (join_assoc (Some r) (strongest rs) (strongest ss))
 
 -- ---- LAWS over an append
 pub shown_append : (T : ℕ) (rs ss : List Reading) → shown T (rs ++ ss) ≡ join (shown T rs) (shown T ss)
 unfolding shown
 shown_append T rs ss = ap strongest (those_append _ rs ss) ∙ strongest_append (as_of T rs) (as_of T ss)
 
-pub shown_nil : (T : ℕ) → shown T [] ≡ none
+pub shown_nil : (T : ℕ) → shown T [] ≡ None
 unfolding shown
 shown_nil T = refl
 
-shown_one_late : (T : ℕ) (r : Reading) → T < r.stamp → shown T (r ∷ []) ≡ none
+shown_one_late : (T : ℕ) (r : Reading) → T < r.stamp → shown T (r ∷ []) ≡ None
 unfolding shown
 shown_one_late T r h = cc (late T r h)
 
@@ -139,14 +139,14 @@ stays_above : (P : ℕ) (o : Option Reading) (rs : List Reading) → those (stay
 stays_above P o [] = refl
 stays_above P o (r ∷ rs) = by_test (ltb P r.stamp) (λ t. cc (stays_above P o rs)) (λ t. cc (stays_above P o rs))
 
-none_has : (P lo : ℕ) (m : Reading) → m.stamp ≤ lo → (rs : List Reading) → Rising lo rs → Under P rs → those (stays P (some m)) rs ≡ []
+none_has : (P lo : ℕ) (m : Reading) → m.stamp ≤ lo → (rs : List Reading) → Rising lo rs → Under P rs → those (stays P (Some m)) rs ≡ []
 none_has P lo m l [] h u = refl
 none_has P lo m l (r ∷ rs) h u =
     let q : m.stamp < r.stamp = omega arith in
     cc (none_has P r.stamp m (omega arith) rs h.1 u.1, le-ltb P r.stamp u.0, ne_eqb m.stamp r.stamp (λ e. omega arith))
 
 -- of rising readings up to P one alone has the stamp of one of them
-one_stays : (P lo : ℕ) (rs : List Reading) (m : Reading) → Rising lo rs → Under P rs → Memᴰ m rs → those (stays P (some m)) rs ≡ m ∷ []
+one_stays : (P lo : ℕ) (rs : List Reading) (m : Reading) → Rising lo rs → Under P rs → Memᴰ m rs → those (stays P (Some m)) rs ≡ m ∷ []
 one_stays P lo [] m h u a = absurd (Memᴰ.not-nil a)
 one_stays P lo (r ∷ rs) m h u a =
     let d = le-ltb P r.stamp u.0 in
@@ -159,7 +159,7 @@ one_stays P lo (r ∷ rs) m h u a =
     cc (d, one_stays P r.stamp rs m h.1 u.1 b, ne_eqb m.stamp r.stamp (λ f. omega arith)))
     (Memᴰ.cases_cons a)
 
-shown_one : (T : ℕ) (r : Reading) → r.stamp ≤ T → shown T (r ∷ []) ≡ some r
+shown_one : (T : ℕ) (r : Reading) → r.stamp ≤ T → shown T (r ∷ []) ≡ Some r
 unfolding shown
 shown_one T r h = cc (within_time T r h)
 
@@ -170,9 +170,9 @@ under_more hi hi' h (r ∷ rs) u = (omega arith, under_more hi hi' h rs u.1)
 low_stays : (P T lo : ℕ) → P ≤ T → (rs : List Reading) → Rising lo rs → Under P rs → shown T (those (stays P (strongest rs)) rs) ≡ shown T rs
 low_stays P T lo l rs h u =
     by_option (strongest rs)
-    (λ n. let z : FindsStrongest rs none = rw n at (finds_strongest rs) in rw z)
+    (λ n. let z : FindsStrongest rs None = rw n at (finds_strongest rs) in rw z)
     (λ m n.
-    let z : FindsStrongest rs (some m) = rw n at (finds_strongest rs) in
+    let z : FindsStrongest rs (Some m) = rw n at (finds_strongest rs) in
     rw (n, one_stays P lo rs m h u z.among, shown_one T m (omega (arith, under_among P rs m u z.among)), shown_all T rs (under_more P T l rs u))
     (sym n))
 

@@ -4,7 +4,7 @@ use mathlib.Core.Bool.{true}
 use mathlib.Core.Logic.{⊎_elim}
 use mathlib.Core.List.Memᴰ
 use mathlib.Core.List.{List, [], ◌∷◌, Memᴰ}
-use mathlib.Core.Option.{Option, none, some}
+use Rattle.std.specs.Prelude.{Option, None, Some}
 use Rattle.journal.specs.Order.{Reading, weaker}
 use Rattle.journal.specs.Readings.{join, strongest}
 use Rattle.lists.proofs.Cases.{by_test}
@@ -17,8 +17,8 @@ pub record IsStrongest (rs : List Reading) (m : Reading) : Type 0 where
 
 -- nothing is strongest only where there is none
 abbrev pub FindsStrongest : List Reading → Option Reading → Type 0
-FindsStrongest rs none = rs ≡ []
-FindsStrongest rs (some m) = IsStrongest rs m
+FindsStrongest rs None = rs ≡ []
+FindsStrongest rs (Some m) = IsStrongest rs m
 
 weaker_refl : (r : Reading) → weaker r r ≡ true
 weaker_refl r = by_test (weaker r r) (λ t. t) (λ t. weaker_total r r t)
@@ -28,13 +28,13 @@ on_cons : (P : Reading → Type 0) (x : Reading) (rs : List Reading) → P x →
 on_cons P x rs h k r m = ⊎_elim (λ (e : r ≡ x). rw e h) (k r) (Memᴰ.cases_cons m)
 
 -- one reading more
-one_more : (x : Reading) (rs : List Reading) (o : Option Reading) → FindsStrongest rs o → FindsStrongest (x ∷ rs) (join (some x) o)
-one_more x rs none h =
+one_more : (x : Reading) (rs : List Reading) (o : Option Reading) → FindsStrongest rs o → FindsStrongest (x ∷ rs) (join (Some x) o)
+one_more x rs None h =
     record {
       among = Memᴰ.head refl;
       over = on_cons (λ r. weaker r x ≡ true) x rs (weaker_refl x) (λ r m. absurd (Memᴰ.not-nil (rw h at m)));
     }
-one_more x rs (some s) h =
+one_more x rs (Some s) h =
     by_test (weaker x s)
     (λ t. rw t (record {
       among = Memᴰ.tail h.among;

@@ -1,7 +1,6 @@
 -- What users of the journal rely on, stated of its definitions; the proofs stand in proofs/Laws.antt. Assumes nothing.
-use Rattle.std.specs.Prelude.{ℕ, ◌+◌, ◌*◌, ◌≤◌, ◌<◌, ◌≡◌, true, false, ◌↔◌, pos, neg_ℤ, length, get_or}
+use Rattle.std.specs.Prelude.{ℕ, ◌+◌, ◌*◌, ◌≤◌, ◌<◌, ◌≡◌, true, false, ◌↔◌, pos, neg_ℤ, length, get_or, Option, None, Some}
 use mathlib.Core.List.{List, [], Memᴰ}
-use Rattle.std.proofs.Math.Option.{Option, none, some}
 use Rattle.values.specs.declared.Measurement.{Measurement}
 use Rattle.calendar.specs.Dates.{last_day}
 use Rattle.journal.specs.Value.{Value, value_of}
@@ -18,8 +17,8 @@ MagnitudeIs = (m : Measurement) (n : ℕ) → (m.value ≡ pos n → (value_of m
 -- a value is the same as that of a reading exactly where their magnitudes are equal, and where there is no reading it is not
 abbrev pub SameIsSameMagnitude : Type 0
 SameIsSameMagnitude =
-    ((r : Reading) (value : Value) → (same_as (some r) value ≡ true) ↔ (r.value.magnitude ≡ value.magnitude))
-    × ((value : Value) → same_as none value ≡ false)
+    ((r : Reading) (value : Value) → (same_as (Some r) value ≡ true) ↔ (r.value.magnitude ≡ value.magnitude))
+    × ((value : Value) → same_as None value ≡ false)
 
 -- m is the newest of the readings: one of them, and none of them has a greater stamp
 pub record IsGreatest (rs : List Reading) (m : Reading) : Type 0 where
@@ -28,8 +27,8 @@ pub record IsGreatest (rs : List Reading) (m : Reading) : Type 0 where
 
 -- what is found among readings is the newest of them; nothing is found only where there is none
 abbrev pub FindsGreatest : List Reading → Option Reading → Type 0
-FindsGreatest rs none = rs ≡ []
-FindsGreatest rs (some m) = IsGreatest rs m
+FindsGreatest rs None = rs ≡ []
+FindsGreatest rs (Some m) = IsGreatest rs m
 
 -- `strongest` finds it in every list of readings, whatever the order in which they stand
 abbrev pub StrongestIsNewest : Type 0
@@ -43,8 +42,8 @@ pub record IsNewest (T : ℕ) (rs : List Reading) (m : Reading) : Type 0 where
 
 -- what is shown as of T is the newest; where nothing is shown every stamp is above T
 abbrev pub ShowsNewest : ℕ → List Reading → Option Reading → Type 0
-ShowsNewest T rs none = (r : Reading) → Memᴰ r rs → T < r.stamp
-ShowsNewest T rs (some m) = IsNewest T rs m
+ShowsNewest T rs None = (r : Reading) → Memᴰ r rs → T < r.stamp
+ShowsNewest T rs (Some m) = IsNewest T rs m
 
 -- of all readings and every T
 abbrev pub ShownIsNewest : Type 0

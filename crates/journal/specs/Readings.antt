@@ -1,6 +1,5 @@
 -- The reading shown as of a stamp T, among the readings of one quarter hour of one point. Of the order it knows `weaker` alone. Assumes nothing.
-use Rattle.std.specs.Prelude.{ℕ, Bool, false, cond, List, [], ◌∷◌, leb, eqb}
-use Rattle.std.proofs.Math.Option.{Option, none, some}
+use Rattle.std.specs.Prelude.{ℕ, Bool, false, cond, List, [], ◌∷◌, leb, eqb, Option, None, Some}
 use Rattle.lists.specs.Those.{those}
 use Rattle.journal.specs.Value.{Value, same_value}
 use Rattle.journal.specs.Order.{Reading, weaker}
@@ -11,14 +10,14 @@ prefer r s = cond (weaker r s) s r
 
 -- the same of two readings that need not exist
 abbrev pub join : Option Reading → Option Reading → Option Reading
-join none o = o
-join (some r) none = some r
-join (some r) (some s) = some (prefer r s)
+join None o = o
+join (Some r) None = Some r
+join (Some r) (Some s) = Some (prefer r s)
 
 -- the reading that gives way to no other
 abbrev pub strongest : List Reading → Option Reading
-strongest [] = none
-strongest (r ∷ rs) = join (some r) (strongest rs)
+strongest [] = None
+strongest (r ∷ rs) = join (Some r) (strongest rs)
 
 -- whether a reading has a stamp of at most T
 abbrev pub in_time : ℕ → Reading → Bool
@@ -34,20 +33,20 @@ shown T rs = strongest (as_of T rs)
 
 -- whether a reading exists and has this value
 abbrev pub same_as : Option Reading → Value → Bool
-same_as none value = false
-same_as (some r) value = same_value r.value value
+same_as None value = false
+same_as (Some r) value = same_value r.value value
 
 -- whether a reading exists and has this stamp
 abbrev pub has_stamp : Option Reading → ℕ → Bool
-has_stamp none stamp = false
-has_stamp (some r) stamp = eqb r.stamp stamp
+has_stamp None stamp = false
+has_stamp (Some r) stamp = eqb r.stamp stamp
 
 -- the stamp of a reading, 0 where there is none
 abbrev pub stamp_of : Option Reading → ℕ
-stamp_of none = 0
-stamp_of (some r) = r.stamp
+stamp_of None = 0
+stamp_of (Some r) = r.stamp
 
 -- the value of a reading, if there is one
 abbrev pub value_shown : Option Reading → Option Value
-value_shown none = none
-value_shown (some r) = some r.value
+value_shown None = None
+value_shown (Some r) = Some r.value

@@ -6,7 +6,7 @@ use mathlib.Core.Path.{◌≡◌, refl, sym, ap, ◌∙◌}
 use mathlib.Core.Bool.{Bool, true, false, cond, not, ◌&&◌, ◌||◌, not-not}
 use mathlib.Core.List.Memᴰ
 use mathlib.Core.List.{List, [], ◌∷◌, ◌++◌, append_assoc}
-use mathlib.Core.Option.{Option, none, some}
+use Rattle.std.specs.Prelude.{Option, None, Some}
 use lib.Dec.{leb, ltb, eqb}
 use borrow.Author.Tests.{eqb-true, eqb-false, leb-true, ltb-true, ltb-false, le-leb, lt-ltb, eq-eqb, ne_eqb}
 use Rattle.lists.proofs.Cases.{by_test, by_option}
@@ -44,18 +44,18 @@ rising_parts : (lo : ℕ) (rs : List Reading) (r : Reading) (ss : List Reading) 
 rising_parts lo [] r ss h = ((h.0, tt), h.1)
 rising_parts lo (x ∷ rs) r ss h = let k = rising_parts x.stamp rs r ss h.1 in ((h.0, k.0), k.1)
 
-shown_above : (P lo : ℕ) (rs : List Reading) (m : Reading) → Rising lo rs → shown P rs ≡ some m → lo < m.stamp
-shown_above P lo rs m h e = let t : Tells P rs (some m) = rw e at (shown_tells P rs) in rising_among lo rs m h t.among
+shown_above : (P lo : ℕ) (rs : List Reading) (m : Reading) → Rising lo rs → shown P rs ≡ Some m → lo < m.stamp
+shown_above P lo rs m h e = let t : Tells P rs (Some m) = rw e at (shown_tells P rs) in rising_among lo rs m h t.among
 
 -- ---- an entry shows a key where a reading is shown for its place
 -- whether a reading exists
 abbrev exists : Option Reading → Bool
-exists none = false
-exists (some r) = true
+exists None = false
+exists (Some r) = true
 
-join_exists : (r : Reading) (o : Option Reading) → exists (join (some r) o) ≡ true
-join_exists r none = refl
-join_exists r (some s) = refl
+join_exists : (r : Reading) (o : Option Reading) → exists (join (Some r) o) ≡ true
+join_exists r None = refl
+join_exists r (Some s) = refl
 
 -- two places have one key where they are the same
 key_told : (points p q : ℕ) → p < points * point_places → q < points * point_places → eqb (key_of points p) (key_of points q) ≡ eqb p q
@@ -83,7 +83,7 @@ shown_told : (P lo : ℕ) (rs : List Reading) (r : Reading) (ss : List Reading) 
 unfolding weaker
 shown_told P lo rs r ss h l =
     let k = rising_parts lo rs r ss h in
-    let q : shown P (rs ++ (r ∷ ss)) ≡ join (some r) (shown P ss) =
+    let q : shown P (rs ++ (r ∷ ss)) ≡ join (Some r) (shown P ss) =
     ap (shown P) (sym (append_assoc rs (r ∷ []) ss)) ∙ shown_append P (rs ++ (r ∷ [])) ss
     ∙ ap (λ (o : Option Reading). join o (shown P ss)) (shown_last P lo rs r k.0 l)
     in

@@ -3,7 +3,7 @@ use Prim.Native.Nat.{ℕ, zero, suc, ◌+◌}
 use mathlib.Core.Path.{◌≡◌, refl, sym, ap, ◌∙◌}
 use mathlib.Core.Bool.{Bool, true, false, cond, ◌&&◌}
 use mathlib.Core.List.{List, [], ◌∷◌, ◌++◌, append_assoc}
-use mathlib.Core.Option.{Option, none, some}
+use Rattle.std.specs.Prelude.{Option, None, Some}
 use native.Mathlib.Omega.{arith}
 use native.Mathlib.Numerals.{add-one}
 use borrow.Author.Tests.{eq-eqb, eqb-true}
@@ -41,7 +41,7 @@ line_read_back letter widths numbers fits =
     rw (eq-eqb _ _ a, eq-eqb letter letter refl, eq-eqb _ _ b) (fields_read_back widths numbers (10 ∷ []) fits)
 
 -- what a test lets through has passed it
-pub when_some : (b : Bool) (o : Option (List ℕ)) (ns : List ℕ) → cond b o none ≡ some ns → (b ≡ true) × (o ≡ some ns)
+pub when_some : (b : Bool) (o : Option (List ℕ)) (ns : List ℕ) → cond b o None ≡ Some ns → (b ≡ true) × (o ≡ Some ns)
 when_some true o ns e = (refl, e)
 when_some false o ns e = let z : ◌≡◌ {A = ℕ} 0 1 = cc in absurd (omega arith)
 
@@ -85,7 +85,7 @@ listed (suc n) (x ∷ ns) l = ap (λ (ms : List ℕ). x ∷ ms) (listed n ns (om
 
 -- a text that begins with a line is read so, and one whose first line is read begins with it
 pub begins_read : (letter : ℕ) (widths numbers rest : List ℕ) → (letter ≡ 10 → ⊥) → fitting widths numbers ≡ true
-    → (line_in letter widths (first_line (line_of letter widths numbers ++ rest)) ≡ some numbers) × (after_line (line_of letter widths numbers ++ rest) ≡ rest)
+    → (line_in letter widths (first_line (line_of letter widths numbers ++ rest)) ≡ Some numbers) × (after_line (line_of letter widths numbers ++ rest) ≡ rest)
 begins_read letter widths numbers rest plain fits = (
   ap (line_in letter widths) (line_first letter widths numbers rest plain).0 ∙ line_read_back letter widths numbers fits,
   (line_first letter widths numbers rest plain).1,
@@ -97,7 +97,7 @@ begins_written letter widths text e = go (line_in letter widths (first_line text
   where
     go : (o : Option (List ℕ)) → line_in letter widths (first_line text) ≡ o → is_none o ≡ false
         → text ≡ line_of letter widths (listing (λ k. nth k o) (length widths)) ++ after_line text
-    go none q e = let z : ◌≡◌ {A = ℕ} 0 1 = cc in absurd (omega arith)
-    go (some ns) q e =
+    go None q e = let z : ◌≡◌ {A = ℕ} 0 1 = cc in absurd (omega arith)
+    go (Some ns) q e =
         let w = line_written_again letter widths (first_line text) ns q in
         begins text _ (w.0 ∙ ap (line_of letter widths) (listed (length widths) ns (sym (fitting_length widths ns w.1))))

@@ -3,7 +3,7 @@ use Prim.Native.Nat.{ℕ, ◌+◌, ◌-◌, ◌≤◌}
 use mathlib.Core.Path.{◌≡◌, sym}
 use mathlib.Core.Bool.{true, false, and-false}
 use mathlib.Core.List.{List, [], ◌∷◌}
-use mathlib.Core.Option.{none, some}
+use Rattle.std.specs.Prelude.{None, Some}
 use native.Mathlib.Nat.{add-sub_cancel_left}
 use native.Mathlib.Omega.{arith}
 use borrow.Author.Tests.{eq-eqb, ne_eqb, eqb-true}
@@ -52,7 +52,7 @@ module _ (letter size : ℕ) (widths line : List ℕ) (sized : total widths ≡ 
   unfolding line_in
   in_frame e = rw (sized, e, tail_part line 1)
 
-  pub out_of_frame : is_framed letter size line ≡ false → none ≡ line_in letter widths line
+  pub out_of_frame : is_framed letter size line ≡ false → None ≡ line_in letter widths line
   unfolding line_in
   out_of_frame e = rw (sized, e)
 
@@ -70,10 +70,10 @@ column line at w ws n e = rw (numbers_in_cons, e, drop-drop)
 
 -- the last column
 pub last_column : (line : List ℕ) (at w : ℕ) (n : Number) → n ≡ number_in (take w (drop at line))
-    → numbers_in (w ∷ []) (drop at line) ≡ with_first n (some [])
+    → numbers_in (w ∷ []) (drop at line) ≡ with_first n (Some [])
 last_column line at w n e = rw (numbers_in_cons, numbers_in_nil, e)
 
 -- the last column, as the part between two places
 pub last_part : (line : List ℕ) (at w : ℕ) (n : Number) → n ≡ number_in (take (at + w - at) (drop at line))
-    → with_first n (some []) ≡ numbers_in (w ∷ []) (drop at line)
+    → with_first n (Some []) ≡ numbers_in (w ∷ []) (drop at line)
 last_part line at w n e = sym (last_column line at w n (rw add-sub_cancel_left at e))

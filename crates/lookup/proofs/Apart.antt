@@ -2,7 +2,7 @@
 -- Assumes nothing.
 use Rattle.std.proofs.Common.{◌≡◌, ℕ, suc, ◌+◌, ◌*◌, ◌<◌, ◌≤◌, true, false, eqb, ltb, leb, List, [], ◌∷◌, map, refl, arith, lt-ltb, eqb-true, le-leb}
 use mathlib.Core.Bool.{false≢true}
-use mathlib.Core.Option.{none}
+use Rattle.std.specs.Prelude.{None}
 use Rattle.lists.proofs.Cases.{by_test, by_option}
 use Rattle.lists.proofs.Below.{and_both, or_neither}
 use Rattle.calendar.specs.Quarters.{quarter_exists}
@@ -86,7 +86,7 @@ module _ (asked : Asked) (exists : quarter_exists asked.day asked.quarter ≡ tr
     near_all = near_weeks 1 four_weeks four_weeks_lem
 
   -- what is shown there
-  module _ (es : List Entry) (beyond : value_shown_at asked.until es nowhere ≡ none) where
+  module _ (es : List Entry) (beyond : value_shown_at asked.until es nowhere ≡ None) where
     value_there : (weeks : ℕ)
         → value_shown_at asked.until es (earlier_place point asked weeks) ≡ value_at asked.until (point_readings es point) (earlier weeks asked.day asked.quarter)
     value_there weeks = by_option (earlier weeks asked.day asked.quarter) (λ n. rw n beyond) (λ slot n. rw n)

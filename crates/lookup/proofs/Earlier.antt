@@ -1,6 +1,6 @@
 -- The same time of day in an earlier week lies on the day so many weeks before, and so within the four weeks before a day. Assumes nothing.
 use Rattle.std.proofs.Common.{◌≡◌, ℕ, ◌+◌, ◌-◌, ◌*◌, ◌≤◌, true, leb, arith, leb-true}
-use mathlib.Core.Option.{some}
+use Rattle.std.specs.Prelude.{Some}
 use Rattle.lists.proofs.Cases.{by_test}
 use Rattle.calendar.specs.Quarters.{quarter_exists}
 use Rattle.calendar.proofs.Laws.{exists_quarter}
@@ -28,7 +28,7 @@ module _ (day quarter : ℕ) (exists : quarter_exists day quarter ≡ true) wher
       record { before = omega arith; near = omega arith; from = k.0; to = k.1 }
 
   -- so many weeks before, the same time of day lies on the day so many weeks before
-  pub earlier_lies : (weeks : ℕ) (slot : Slot) → earlier weeks day quarter ≡ some slot → LiesBefore weeks day slot
+  pub earlier_lies : (weeks : ℕ) (slot : Slot) → earlier weeks day quarter ≡ Some slot → LiesBefore weeks day slot
   unfolding earlier
   earlier_lies weeks slot e =
       by_test (leb (week_days * weeks) day)
@@ -41,7 +41,7 @@ module _ (day quarter : ℕ) (exists : quarter_exists day quarter ≡ true) wher
       (λ t. let z : ◌≡◌ {A = ℕ} 0 1 = cc in absurd (omega arith))
 
   -- up to four weeks before, within the four weeks
-  pub earlier_within : (weeks : ℕ) → weeks ≤ 4 → (slot : Slot) → earlier weeks day quarter ≡ some slot → Within day slot
+  pub earlier_within : (weeks : ℕ) → weeks ≤ 4 → (slot : Slot) → earlier weeks day quarter ≡ Some slot → Within day slot
   earlier_within weeks few slot e =
       let l = earlier_lies weeks slot e in
       record { before = omega arith; near = omega arith; from = l.from; to = l.to }

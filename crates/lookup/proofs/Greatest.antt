@@ -1,6 +1,6 @@
 -- Where the entries are right, no point's value is above the greatest magnitude of a reading. Assumes nothing.
 use Rattle.std.proofs.Common.{◌≡◌, ℕ, ◌≤◌, true, eqb, ltb, leb, List, [], ◌∷◌, leb-true}
-use mathlib.Core.Option.{Option, none, some}
+use Rattle.std.specs.Prelude.{Option, None, Some}
 use Rattle.lists.proofs.Cases.{by_test}
 use Rattle.calendar.specs.Quarters.{quarter_exists}
 use Rattle.journal.specs.Value.{stored_right}
@@ -22,9 +22,9 @@ AllSmall (r ∷ rs) = (r.value.magnitude ≤ magnitude_most) × AllSmall rs
 
 -- of two readings one is chosen
 join_small : (o p : Option Reading) → Small (value_shown o) → Small (value_shown p) → Small (value_shown (join o p))
-join_small none p h k = k
-join_small (some r) none h k = h
-join_small (some r) (some s) h k = by_test (weaker r s) (λ t. rw t k) (λ t. rw t h)
+join_small None p h k = k
+join_small (Some r) None h k = h
+join_small (Some r) (Some s) h k = by_test (weaker r s) (λ t. rw t k) (λ t. rw t h)
 
 -- so what is shown is one of them
 shown_small : (T : ℕ) (rs : List Reading) → AllSmall rs → Small (value_shown (shown T rs))
@@ -32,7 +32,7 @@ unfolding shown
 shown_small T [] k = tt
 shown_small T (r ∷ rs) k =
     by_test (leb r.stamp T)
-    (λ t. rw t (join_small (some r) (strongest (as_of T rs)) k.0 (shown_small T rs k.1)))
+    (λ t. rw t (join_small (Some r) (strongest (as_of T rs)) k.0 (shown_small T rs k.1)))
     (λ t. rw t (shown_small T rs k.1))
 
 -- the readings of a place, among entries that are right
@@ -48,8 +48,8 @@ readings_small points K last lo place (e ∷ es) h =
 -- the value of a quarter hour that need not exist
 value_small : (T : ℕ) (readings : ℕ → ℕ → List Reading) → ((day quarter : ℕ) → AllSmall (readings day quarter)) → (o : Option Slot)
     → Small (value_at T readings o)
-value_small T readings each none = tt
-value_small T readings each (some slot) = shown_small T (readings slot.day slot.quarter) (each slot.day slot.quarter)
+value_small T readings each None = tt
+value_small T readings each (Some slot) = shown_small T (readings slot.day slot.quarter) (each slot.day slot.quarter)
 
 -- so the magnitude of a point is within
 pub value_within : (status : ℕ) (readings : ℕ → ℕ → List Reading) (day quarter T : ℕ) → ((day quarter : ℕ) → AllSmall (readings day quarter))

@@ -1,6 +1,6 @@
 -- What users of a look-up rely on: means are nearest, a reading counts, and what stands in for a missing one. Assumes nothing.
 use Rattle.std.proofs.Common.{◌≡◌, ℕ, List, length, ◌∙◌, arith, ltb-false}
-use mathlib.Core.Option.{none}
+use Rattle.std.specs.Prelude.{None}
 use Rattle.lists.proofs.Cases.{by_test}
 use Rattle.journal.specs.Order.{Reading}
 use Rattle.journal.specs.Readings.{shown}
@@ -24,7 +24,7 @@ missing_counts_zero status readings day quarter T e h =
     by_test (not_active status) (λ t. rw (e, t)) (λ f. absurd (omega (arith, ltb-false)))
 
 -- with status 0 what is shown in the weeks decides
-missing_weeks : (readings : ℕ → ℕ → List Reading) (day quarter T : ℕ) → shown T (readings day quarter) ≡ none
+missing_weeks : (readings : ℕ → ℕ → List Reading) (day quarter T : ℕ) → shown T (readings day quarter) ≡ None
     → looked_up 0 readings day quarter T ≡ mean_value (shown_in_weeks readings day quarter T)
 unfolding looked_up
 missing_weeks readings day quarter T e = rw (e, weeks_exist)

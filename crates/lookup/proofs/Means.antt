@@ -1,6 +1,6 @@
 -- The mean of the earlier weeks is never above the greatest magnitude. Assumes nothing.
 use Rattle.std.proofs.Common.{ℕ, ◌+◌, ◌*◌, ◌<◌, ◌≤◌, leb, List, [], ◌∷◌, map, length, mul-le-mul, arith, leb-false, leb-true}
-use mathlib.Core.Option.{Option, none, some}
+use Rattle.std.specs.Prelude.{Option, None, Some}
 use Rattle.lists.proofs.Cases.{by_test}
 use Rattle.journal.specs.Value.{Value}
 use Rattle.values.specs.Values.{magnitude_most}
@@ -19,8 +19,8 @@ nearest_within sum count one h =
 
 -- a value that need not exist is at most the greatest magnitude
 abbrev pub Small : Option Value → Type 0
-Small none = Unit {0}
-Small (some value) = value.magnitude ≤ magnitude_most
+Small None = Unit {0}
+Small (Some value) = value.magnitude ≤ magnitude_most
 
 -- the sum of the values is at most the greatest magnitude for each
 abbrev SumWithin : List (Option Value) → Type 0
@@ -32,8 +32,8 @@ within_none = omega arith
 
 within_cons : (value : Option Value) (values : List (Option Value)) → Small value → SumWithin values → SumWithin (value ∷ values)
 unfolding existing sum_of
-within_cons none values h s = s
-within_cons (some value) values h s = omega (arith, s)
+within_cons None values h s = s
+within_cons (Some value) values h s = omega (arith, s)
 
 -- so the mean of values that exist is within, and so is the zero where none exists
 mean_of_within : (values : List ℕ) → sum_of values ≤ magnitude_most * length values → (mean_value values).magnitude ≤ magnitude_most

@@ -1,6 +1,6 @@
 -- What stands in for a missing reading: the values of the four earlier weeks that exist, by the days before. Assumes nothing.
 use Rattle.std.proofs.Common.{◌≡◌, ℕ, ◌-◌, ◌*◌, leb, List, ◌∷◌, ◌++◌, refl, append-nil}
-use mathlib.Core.Option.{Option}
+use Rattle.std.specs.Prelude.{Option}
 use Rattle.lists.proofs.Cases.{by_test, by_option}
 use Rattle.journal.specs.Value.{Value}
 use Rattle.journal.specs.Order.{Reading}

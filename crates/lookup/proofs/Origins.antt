@@ -1,6 +1,6 @@
 -- What an origin tells of a point's value, its status and its readings. Assumes nothing.
 use Rattle.std.proofs.Common.{◌≡◌, ℕ, ◌≤◌, List, [], ◌∷◌, length, refl, ap, arith, ltb-false, ltb-true}
-use mathlib.Core.Option.{none, some}
+use Rattle.std.specs.Prelude.{None, Some}
 use Rattle.lists.proofs.Cases.{by_test, by_option}
 use Rattle.journal.specs.Order.{Reading}
 use Rattle.journal.specs.Readings.{shown}
@@ -15,7 +15,7 @@ module _ (status : ℕ) (readings : ℕ → ℕ → List Reading) (day quarter T
   four_at_most = rw (weeks_exist readings day quarter T) at (existing_few (weeks_before readings day quarter T))
 
   -- a point with status 0 and no reading, by what the weeks show
-  tells_mean : (values : List ℕ) → shown_in_weeks readings day quarter T ≡ values → length values ≤ 4 → shown T (readings day quarter) ≡ none → status ≡ 0
+  tells_mean : (values : List ℕ) → shown_in_weeks readings day quarter T ≡ values → length values ≤ 4 → shown T (readings day quarter) ≡ None → status ≡ 0
       → OriginTells status readings day quarter T (mean_value values)
   tells_mean [] e few n z =
       record {
@@ -43,7 +43,7 @@ module _ (status : ℕ) (readings : ℕ → ℕ → List Reading) (day quarter T
       }
 
   -- a point without a reading, by its status
-  tells_missing : shown T (readings day quarter) ≡ none → OriginTells status readings day quarter T (looked_up status readings day quarter T)
+  tells_missing : shown T (readings day quarter) ≡ None → OriginTells status readings day quarter T (looked_up status readings day quarter T)
   unfolding looked_up
   tells_missing n =
       rw (n, weeks_exist)
@@ -64,7 +64,7 @@ module _ (status : ℕ) (readings : ℕ → ℕ → List Reading) (day quarter T
       (λ f. rw f (tells_mean (shown_in_weeks readings day quarter T) refl four_at_most n (omega (arith, ltb-false 0 status f)))))
 
   -- one with a reading
-  tells_measured : (reading : Reading) → shown T (readings day quarter) ≡ some reading
+  tells_measured : (reading : Reading) → shown T (readings day quarter) ≡ Some reading
       → OriginTells status readings day quarter T (looked_up status readings day quarter T)
   unfolding looked_up
   tells_measured reading e =

@@ -2,7 +2,7 @@
 -- Assumes nothing.
 use Rattle.std.proofs.Common.{◌≡◌, ℕ, ◌+◌, ◌<◌, ◌≤◌, Bool, true, false, ◌&&◌, ◌||◌, eqb, leb, List, [], ◌∷◌, ◌++◌, map, length, sym, refl, ap, ◌∙◌, true≢false, arith, ne_eqb, eqb-true}
 use mathlib.Core.Bool.{false≢true}
-use mathlib.Core.Option.{Option, none, some}
+use Rattle.std.specs.Prelude.{Option, None, Some}
 use Rattle.lists.proofs.Cases.{by_test}
 use Rattle.lists.proofs.Below.{and_late, or_neither}
 use Rattle.journal.specs.Value.{Value, value_in}
@@ -17,27 +17,27 @@ use Rattle.lookup.proofs.Newest.{value_shown_at, value_then}
 -- ---- values that need not exist
 -- what one gives to the sum
 abbrev amount : Option Value → ℕ
-amount none = 0
-amount (some value) = value.magnitude
+amount None = 0
+amount (Some value) = value.magnitude
 
 sum_cons : (o : Option Value) (os : List (Option Value)) → sum_of (existing (o ∷ os)) ≡ amount o + sum_of (existing os)
 unfolding existing sum_of
-sum_cons none os = omega arith
-sum_cons (some value) os = omega arith
+sum_cons None os = omega arith
+sum_cons (Some value) os = omega arith
 
 -- and to the number of values
 abbrev one : Option Value → ℕ
-one none = 0
-one (some value) = 1
+one None = 0
+one (Some value) = 1
 
 count_cons : (o : Option Value) (os : List (Option Value)) → length (existing (o ∷ os)) ≡ one o + length (existing os)
 unfolding existing
-count_cons none os = omega arith
-count_cons (some value) os = omega arith
+count_cons None os = omega arith
+count_cons (Some value) os = omega arith
 
 one_most : (o : Option Value) → one o ≤ 1
-one_most none = omega arith
-one_most (some value) = omega arith
+one_most None = omega arith
+one_most (Some value) = omega arith
 
 -- no more of them exist than there are
 pub count_within : (os : List (Option Value)) → length (existing os) ≤ length os
@@ -111,7 +111,7 @@ module _ (T : ℕ) (es : List Entry) (e : Entry) where
         ≡ (value_in e.stored).magnitude + sum_of (existing (values T es (map (without e.place) places)))
     pub count : length (existing (values T (es ++ (e ∷ [])) places)) ≡ 1 + length (existing (values T es (map (without e.place) places)))
 
-  module _ (rising : (place : ℕ) → Rising 0 (readings_at (es ++ (e ∷ [])) place)) (beyond : value_shown_at T es nowhere ≡ none) (within_time : leb e.stamp T ≡ true) where
+  module _ (rising : (place : ℕ) → Rising 0 (readings_at (es ++ (e ∷ [])) place)) (beyond : value_shown_at T es nowhere ≡ None) (within_time : leb e.stamp T ≡ true) where
     -- one that is sought
     pub gives : (places : List ℕ) → is_sought e.place places ≡ true → Once e.place places → Gives places
     gives [] t o = let z : false ≡ true = t in absurd (false≢true z)
@@ -123,10 +123,10 @@ module _ (T : ℕ) (es : List Entry) (e : Entry) where
         (λ here.
         let f = o.0 here in
         let rest : after ≡ before = values_passed others (rw f) ∙ rw (same_without e.place others f) in
-        let new = some (value_in e.stored) in
+        let new = Some (value_in e.stored) in
         record {
-          sum = rw (then, here, within_time, beyond, rest) (omega (arith, sum_cons new before, sum_cons none before));
-          count = rw (then, here, within_time, beyond, rest) (omega (arith, count_cons new before, count_cons none before));
+          sum = rw (then, here, within_time, beyond, rest) (omega (arith, sum_cons new before, sum_cons None before));
+          count = rw (then, here, within_time, beyond, rest) (omega (arith, count_cons new before, count_cons None before));
         })
         (λ other.
         let later = gives others (rw other at t) o.1 in

@@ -1,7 +1,7 @@
 -- The value and the origin of a point, by what the code finds of its own quarter hour and of its earlier weeks; the value is never above the greatest
 -- magnitude of a reading. Assumes nothing.
 use Rattle.std.proofs.Common.{◌≡◌, ℕ, zero, suc, ◌-◌, ◌<◌, ◌≤◌, true, false, List, [], ◌∷◌, map, length, sym, refl, ap, ◌∙◌, arith}
-use mathlib.Core.Option.{Option, none, some}
+use Rattle.std.specs.Prelude.{Option, None, Some}
 use Rattle.lists.proofs.Cases.{by_test}
 use Rattle.journal.specs.Value.{Value}
 use Rattle.journal.specs.Entries.{Entry}
@@ -71,12 +71,12 @@ module _ (es : List Entry) (asked : Asked) (point status own : ℕ) (e : value_f
 -- a value's magnitude and a substitute's are within, where the values are
 pub from_within : (status : ℕ) (value : Option Value) (week : ℕ → Option Value) → Small value → ((n : ℕ) → n < 5 → Small (week n))
     → (looked_up_from status value (map week four_weeks)).magnitude ≤ magnitude_most
-from_within status none week h small = by_test (not_active status) (λ t. rw t (omega arith)) (λ f. rw f (mean_within week small))
-from_within status (some value) week h small = h
+from_within status None week h small = by_test (not_active status) (λ t. rw t (omega arith)) (λ f. rw f (mean_within week small))
+from_within status (Some value) week h small = h
 
 -- no more values exist than there are
 pub existing_few : (values : List (Option Value)) → length (existing values) ≤ length values
 unfolding existing
 existing_few [] = omega arith
-existing_few (none ∷ values) = omega (arith, existing_few values)
-existing_few (some value ∷ values) = omega (arith, existing_few values)
+existing_few (None ∷ values) = omega (arith, existing_few values)
+existing_few (Some value ∷ values) = omega (arith, existing_few values)

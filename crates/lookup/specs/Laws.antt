@@ -1,6 +1,5 @@
 -- What users of a look-up rely on, stated of its definitions; the proofs stand in proofs/Laws.antt and proofs/Origins.antt. Assumes nothing.
-use Rattle.std.specs.Prelude.{◌≡◌, ℕ, ◌+◌, ◌-◌, ◌*◌, ◌<◌, ◌≤◌, cond, List, [], ◌∷◌, ◌++◌, length, nat_le}
-use Rattle.std.proofs.Math.Option.{Option, none, some}
+use Rattle.std.specs.Prelude.{◌≡◌, ℕ, ◌+◌, ◌-◌, ◌*◌, ◌<◌, ◌≤◌, cond, List, [], ◌∷◌, ◌++◌, length, nat_le, Option, None, Some}
 use Rattle.journal.specs.Order.{Reading}
 use Rattle.journal.specs.Readings.{shown}
 use Rattle.lookup.specs.declared.PointValue.{PointValue}
@@ -18,8 +17,8 @@ MeanIsNearest =
 
 -- the magnitude of a reading that is shown: one number, or none where none is shown
 abbrev pub magnitude_shown : Option Reading → List ℕ
-magnitude_shown none = []
-magnitude_shown (some reading) = reading.value.magnitude ∷ []
+magnitude_shown None = []
+magnitude_shown (Some reading) = reading.value.magnitude ∷ []
 
 -- the magnitude shown as of T so many days before a day, at the same quarter number; none where that lies before day 0
 abbrev pub shown_before : (days : ℕ) → (readings : ℕ → ℕ → List Reading) → (day quarter T : ℕ) → List ℕ
@@ -36,26 +35,26 @@ shown_in_weeks readings day quarter T =
 -- a reading that is shown is a point's value, measured, whatever its status
 abbrev pub ReadingCounts : Type 0
 ReadingCounts =
-    (status : ℕ) (readings : ℕ → ℕ → List Reading) (day quarter T : ℕ) (reading : Reading) → shown T (readings day quarter) ≡ some reading
+    (status : ℕ) (readings : ℕ → ℕ → List Reading) (day quarter T : ℕ) (reading : Reading) → shown T (readings day quarter) ≡ Some reading
     → looked_up status readings day quarter T ≡ record { magnitude = reading.value.magnitude; origin = 0 }
 
 -- where none is shown, a status above 0 gives zero by status
 abbrev pub MissingCountsZero : Type 0
 MissingCountsZero =
-    (status : ℕ) (readings : ℕ → ℕ → List Reading) (day quarter T : ℕ) → shown T (readings day quarter) ≡ none → 1 ≤ status
+    (status : ℕ) (readings : ℕ → ℕ → List Reading) (day quarter T : ℕ) → shown T (readings day quarter) ≡ None → 1 ≤ status
     → looked_up status readings day quarter T ≡ record { magnitude = 0; origin = 5 }
 
 -- status 0 gives the mean of those magnitudes that are shown 7, 14, 21 and 28 days before, with how many they are
 abbrev pub MissingIsMean : Type 0
 MissingIsMean =
-    (readings : ℕ → ℕ → List Reading) (day quarter T : ℕ) → shown T (readings day quarter) ≡ none
+    (readings : ℕ → ℕ → List Reading) (day quarter T : ℕ) → shown T (readings day quarter) ≡ None
     → let weeks = shown_in_weeks readings day quarter T in
     1 ≤ length weeks → looked_up 0 readings day quarter T ≡ record { magnitude = mean_of weeks; origin = length weeks }
 
 -- and zero for lack of readings where none is shown in these weeks
 abbrev pub MissingForLack : Type 0
 MissingForLack =
-    (readings : ℕ → ℕ → List Reading) (day quarter T : ℕ) → shown T (readings day quarter) ≡ none
+    (readings : ℕ → ℕ → List Reading) (day quarter T : ℕ) → shown T (readings day quarter) ≡ None
     → length (shown_in_weeks readings day quarter T) ≡ 0 → looked_up 0 readings day quarter T ≡ record { magnitude = 0; origin = 6 }
 
 -- ---- what an origin tells
@@ -64,7 +63,7 @@ MissingForLack =
 pub record OriginTells (status : ℕ) (readings : ℕ → ℕ → List Reading) (day quarter T : ℕ) (value : PointValue) : Type 0 where
   pub most : value.origin ≤ 6
   pub measured : value.origin ≡ 0 → magnitude_shown (shown T (readings day quarter)) ≡ value.magnitude ∷ []
-  pub missing : 1 ≤ value.origin → shown T (readings day quarter) ≡ none
+  pub missing : 1 ≤ value.origin → shown T (readings day quarter) ≡ None
   pub active : 1 ≤ value.origin → value.origin ≤ 4 → status ≡ 0
   pub weeks : 1 ≤ value.origin → value.origin ≤ 4 → value.origin ≡ length (shown_in_weeks readings day quarter T)
   pub mean : 1 ≤ value.origin → value.origin ≤ 4 → value.magnitude ≡ mean_of (shown_in_weeks readings day quarter T)

@@ -1,6 +1,5 @@
 -- The value of a point in a quarter hour and its origin, as one answer: its reading, or what stands in for a missing one. Assumes nothing.
-use Rattle.std.specs.Prelude.{ℕ, Bool, cond, List, [], ◌∷◌, map, length, nat_lt}
-use Rattle.std.proofs.Math.Option.{Option, none, some}
+use Rattle.std.specs.Prelude.{ℕ, Bool, cond, List, [], ◌∷◌, map, length, nat_lt, Option, None, Some}
 use Rattle.journal.specs.Value.{Value}
 use Rattle.journal.specs.Order.{Reading}
 use Rattle.journal.specs.Readings.{shown, value_shown}
@@ -23,8 +22,8 @@ zero_for_lack = record { magnitude = 0; origin = 6 }
 -- the magnitudes of the values that exist
 unfoldable pub existing : List (Option Value) → List ℕ
 existing [] = []
-existing (none ∷ values) = existing values
-existing (some value ∷ values) = value.magnitude ∷ existing values
+existing (None ∷ values) = existing values
+existing (Some value ∷ values) = value.magnitude ∷ existing values
 
 -- the mean of the values that exist, whose origin is how many they are; zero for lack of readings if none exists
 abbrev pub mean_value : List ℕ → PointValue
@@ -41,13 +40,13 @@ substitute status weeks = cond (not_active status) zero_by_status (mean_value (e
 
 -- the reading's value, or the substitute where there is no reading
 abbrev pub looked_up_from : (status : ℕ) → Option Value → List (Option Value) → PointValue
-looked_up_from status (some value) weeks = measured_value value
-looked_up_from status none weeks = substitute status weeks
+looked_up_from status (Some value) weeks = measured_value value
+looked_up_from status None weeks = substitute status weeks
 
 -- what is shown as of T in a quarter hour, if there is such a quarter hour and such a reading
 abbrev pub value_at : (T : ℕ) → (readings : ℕ → ℕ → List Reading) → Option Slot → Option Value
-value_at T readings none = none
-value_at T readings (some slot) = value_shown (shown T (readings slot.day slot.quarter))
+value_at T readings None = None
+value_at T readings (Some slot) = value_shown (shown T (readings slot.day slot.quarter))
 
 -- the four earlier weeks
 abbrev pub four_weeks : List ℕ

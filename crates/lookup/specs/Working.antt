@@ -1,7 +1,6 @@
 -- What the code works with: a number for each of 64 points, of their own quarter hour; the values of all points; and what a pass back through the
 -- journal knows of a point's earlier weeks. Assumes nothing.
-use Rattle.std.specs.Prelude.{◌≡◌, ℕ, zero, suc, ◌+◌, ◌-◌, ◌*◌, ◌<◌, ◌≤◌, Bool, true, false, cond, ◌&&◌, ◌||◌, List, [], ◌∷◌, length, ◌==◌, nat_le, nat_lt, slice_index}
-use Rattle.std.proofs.Math.Option.{Option, none, some}
+use Rattle.std.specs.Prelude.{◌≡◌, ℕ, zero, suc, ◌+◌, ◌-◌, ◌*◌, ◌<◌, ◌≤◌, Bool, true, false, cond, ◌&&◌, ◌||◌, List, [], ◌∷◌, length, ◌==◌, nat_le, nat_lt, slice_index, Option, None, Some}
 use Rattle.calendar.specs.Quarters.{quarter_exists}
 use Rattle.journal.specs.Value.{Value, value_in}
 use Rattle.journal.specs.Order.{Reading}
@@ -42,8 +41,8 @@ looked_up_in es asked point status = looked_up status (point_readings es point) 
 -- ---- the points' own quarter hour
 -- the value that a point's number stands for: none for 0, else what is stored one below it
 abbrev pub value_for : ℕ → Option Value
-value_for zero = none
-value_for (suc stored) = some (value_in stored)
+value_for zero = None
+value_for (suc stored) = Some (value_in stored)
 
 -- an entry taken in: where it is in time and of the slot, which is a day and a quarter as one number, day × 100 + quarter − 1, the number of its point
 -- is what it stores plus one; all other numbers stay
@@ -72,8 +71,8 @@ nowhere = 64 * point_places
 
 -- the place of a point in a quarter hour; nowhere, if there is no such quarter hour
 abbrev pub place_in : (point : ℕ) → Option Slot → ℕ
-place_in point none = nowhere
-place_in point (some slot) = place_of point slot.day slot.quarter
+place_in point None = nowhere
+place_in point (Some slot) = place_of point slot.day slot.quarter
 
 -- the place of a point's quarter hour so many weeks before, or nowhere
 abbrev pub earlier_place : (point : ℕ) → Asked → (weeks : ℕ) → ℕ

@@ -2,7 +2,7 @@
 use Prim.Native.Nat.{ℕ, ◌+◌, ◌-◌, ◌*◌, ◌≤◌, ◌<◌}
 use mathlib.Core.Path.{◌≡◌}
 use mathlib.Core.List.{List}
-use mathlib.Core.Option.{none}
+use Rattle.std.specs.Prelude.{None}
 use native.Mathlib.Omega.{arith}
 use lib.ListN.{length, get_or, take, drop}
 use lib.Dec.{leb, eqb}
@@ -14,11 +14,11 @@ use Rattle.registration_text.specs.Lines.{letter_o, widths_o, widths_of_pairs}
 use Rattle.registration_text.specs.Reader.{fixed_in, rest_in}
 
 module _ (line : List ℕ) where
-  pub short_fixed : length line < 24 → none ≡ fixed_in line
+  pub short_fixed : length line < 24 → None ≡ fixed_in line
   unfolding fixed_in
   short_fixed h = rw (lt-leb _ _ h)
 
-  pub wrong_fixed : (get_or line 0 0 ≡ letter_o → ⊥) → none ≡ fixed_in line
+  pub wrong_fixed : (get_or line 0 0 ≡ letter_o → ⊥) → None ≡ fixed_in line
   unfolding fixed_in
   wrong_fixed h = rw (and_late (leb 24 (length line)) _ (ne_eqb _ _ h))
 
@@ -30,11 +30,11 @@ module _ (line : List ℕ) where
     last : 10 * count + 25 - 1 ≡ 10 * count + 24
     last = omega arith
 
-    pub wrong_rest : (length line ≡ 10 * count + 25 → ⊥) → none ≡ rest_in count line
+    pub wrong_rest : (length line ≡ 10 * count + 25 → ⊥) → None ≡ rest_in count line
     unfolding rest_in
     wrong_rest h = rw (ne_eqb _ _ h)
 
-    pub unended_rest : (get_or line (10 * count + 25 - 1) 0 ≡ 10 → ⊥) → none ≡ rest_in count line
+    pub unended_rest : (get_or line (10 * count + 25 - 1) 0 ≡ 10 → ⊥) → None ≡ rest_in count line
     unfolding rest_in
     unended_rest h = rw (and_late (eqb (length line) (10 * count + 25)) _ (ne_eqb (get_or line (10 * count + 24) 0) 10 (rw last at h)))
 

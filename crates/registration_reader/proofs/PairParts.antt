@@ -3,7 +3,7 @@ use Prim.Native.Nat.{ℕ, zero, suc, ◌+◌, ◌-◌, ◌≤◌, ◌<◌}
 use mathlib.Core.Path.{◌≡◌, refl, ap, ◌∙◌}
 use mathlib.Core.Bool.{true}
 use mathlib.Core.List.{List, [], ◌∷◌}
-use mathlib.Core.Option.{Option, none, some}
+use Rattle.std.specs.Prelude.{Option, None, Some}
 use native.Mathlib.Nat.{sub-zero}
 use native.Mathlib.Omega.{arith}
 use lib.ListN.{length, get_or, take, drop, set, replicate}
@@ -29,8 +29,8 @@ placed sources keys priority (source ∷ []) = record { good = true; sources = s
 placed sources keys priority (source ∷ key ∷ rest) = placed (set sources priority source) (set keys priority key) (suc priority) rest
 
 abbrev placed_if : (sources keys : List ℕ) → ℕ → Option (List ℕ) → Pairs
-placed_if sources keys priority none = by_priority none
-placed_if sources keys priority (some numbers) = placed sources keys priority numbers
+placed_if sources keys priority None = by_priority None
+placed_if sources keys priority (Some numbers) = placed sources keys priority numbers
 
 -- past the places nothing is put anywhere
 beyond : (sources keys : List ℕ) (priority : ℕ) (numbers : List ℕ) → length sources ≤ priority → length keys ≤ priority
@@ -42,18 +42,18 @@ beyond sources keys priority (source ∷ key ∷ rest) h k =
 
 -- from zeros on, that gives the numbers and keys by priority
 spread : (numbers : Option (List ℕ)) → by_priority numbers ≡ placed_if (replicate 5 0) (replicate 5 0) 0 numbers
-spread none = refl
-spread (some []) = refl
-spread (some (a ∷ [])) = refl
-spread (some (a ∷ b ∷ [])) = refl
-spread (some (a ∷ b ∷ c ∷ [])) = refl
-spread (some (a ∷ b ∷ c ∷ d ∷ [])) = refl
-spread (some (a ∷ b ∷ c ∷ d ∷ e ∷ [])) = refl
-spread (some (a ∷ b ∷ c ∷ d ∷ e ∷ f ∷ [])) = refl
-spread (some (a ∷ b ∷ c ∷ d ∷ e ∷ f ∷ g ∷ [])) = refl
-spread (some (a ∷ b ∷ c ∷ d ∷ e ∷ f ∷ g ∷ h ∷ [])) = refl
-spread (some (a ∷ b ∷ c ∷ d ∷ e ∷ f ∷ g ∷ h ∷ i ∷ [])) = refl
-spread (some (a ∷ b ∷ c ∷ d ∷ e ∷ f ∷ g ∷ h ∷ i ∷ j ∷ rest)) =
+spread None = refl
+spread (Some []) = refl
+spread (Some (a ∷ [])) = refl
+spread (Some (a ∷ b ∷ [])) = refl
+spread (Some (a ∷ b ∷ c ∷ [])) = refl
+spread (Some (a ∷ b ∷ c ∷ d ∷ [])) = refl
+spread (Some (a ∷ b ∷ c ∷ d ∷ e ∷ [])) = refl
+spread (Some (a ∷ b ∷ c ∷ d ∷ e ∷ f ∷ [])) = refl
+spread (Some (a ∷ b ∷ c ∷ d ∷ e ∷ f ∷ g ∷ [])) = refl
+spread (Some (a ∷ b ∷ c ∷ d ∷ e ∷ f ∷ g ∷ h ∷ [])) = refl
+spread (Some (a ∷ b ∷ c ∷ d ∷ e ∷ f ∷ g ∷ h ∷ i ∷ [])) = refl
+spread (Some (a ∷ b ∷ c ∷ d ∷ e ∷ f ∷ g ∷ h ∷ i ∷ j ∷ rest)) =
     beyond (a ∷ c ∷ e ∷ g ∷ i ∷ []) (b ∷ d ∷ f ∷ h ∷ j ∷ []) 5 rest (omega arith) (omega arith)
 
 -- what comes of the columns from a place on, once those of the earlier priorities are in their places
@@ -66,8 +66,8 @@ widths_suc count = refl
 
 put : (sources keys : List ℕ) (priority source key : ℕ) (rest : Option (List ℕ))
     → placed_if sources keys priority (with_first (Is source) (with_first (Is key) rest)) ≡ placed_if (set sources priority source) (set keys priority key) (suc priority) rest
-put sources keys priority source key none = refl
-put sources keys priority source key (some numbers) = refl
+put sources keys priority source key None = refl
+put sources keys priority source key (Some numbers) = refl
 
 pub left_begin : (bytes : List ℕ) (count : ℕ) → by_priority (numbers_in (widths_of_pairs count) bytes) ≡ left bytes count (replicate 5 0) (replicate 5 0) 0 0
 unfolding left
@@ -97,12 +97,12 @@ module _ (bytes : List ℕ) (count : ℕ) (sources keys : List ℕ) (priority at
         let end : at + 10 ≡ at + 4 + 6 = omega arith in
         rw end (column bytes (at + 4) 6 (widths_of_pairs (count - (priority + 1))) n (rw width at e))
 
-    pub left_bad_source : Bad ≡ number_in (take (at + 4 - at) (drop at bytes)) → left bytes count sources keys priority at ≡ by_priority none
+    pub left_bad_source : Bad ≡ number_in (take (at + 4 - at) (drop at bytes)) → left bytes count sources keys priority at ≡ by_priority None
     unfolding left
     left_bad_source e = ap (placed_if sources keys priority) (first Bad e)
 
     module _ (source : ℕ) (is_source : Is source ≡ number_in (take (at + 4 - at) (drop at bytes))) where
-      pub left_bad_key : Bad ≡ number_in (take (at + 10 - (at + 4)) (drop (at + 4) bytes)) → left bytes count sources keys priority at ≡ by_priority none
+      pub left_bad_key : Bad ≡ number_in (take (at + 10 - (at + 4)) (drop (at + 4) bytes)) → left bytes count sources keys priority at ≡ by_priority None
       unfolding left
       left_bad_key e = ap (placed_if sources keys priority) (first (Is source) is_source ∙ ap (with_first (Is source)) (second Bad e))
 

@@ -2,7 +2,7 @@
 use Prim.Native.Nat.{ℕ, zero, suc, ◌+◌, ◌-◌, ◌*◌, ◌≤◌, ◌<◌}
 use mathlib.Core.Path.{◌≡◌, refl}
 use mathlib.Core.List.{List, [], ◌∷◌}
-use mathlib.Core.Option.{Option, some}
+use Rattle.std.specs.Prelude.{Option, Some}
 use native.Mathlib.Omega.{arith}
 use lib.ListN.{get_or}
 use Rattle.registration.specs.declared.Registration.{Registration}
@@ -63,7 +63,7 @@ pairs_consumers r consumer source key priority count = (kept consumer source key
 pub consumer_placed : (r placed : Registration) (consumer code status count : ℕ) (pairs : Pairs) (rest : Option (List ℕ))
     → placed ≡ with_point r (r.producers + consumer) code status → pairs ≡ by_priority rest → count ≤ 5
     → with_pairs (with_count placed consumer count) consumer (λ k. get_or pairs.sources k 0) (λ k. get_or pairs.keys k 0) 0 count
-    ≡ with_consumer r consumer (some (code ∷ status ∷ count ∷ [])) rest
+    ≡ with_consumer r consumer (Some (code ∷ status ∷ count ∷ [])) rest
 consumer_placed r placed consumer code status count pairs rest p is few =
     rw p
     (pairs_placed_same _ consumer _ _ _ _ 0 count (λ k h. source_read pairs rest is count few k (omega arith)) (λ k h. key_read pairs rest is count few k (omega arith)))

@@ -2,7 +2,7 @@
 use Prim.Native.Nat.{ℕ, suc, ◌+◌, ◌-◌, ◌≤◌, ◌<◌}
 use mathlib.Core.Path.{◌≡◌, refl, sym, ap, ◌∙◌}
 use mathlib.Core.List.{List}
-use mathlib.Core.Option.{Option}
+use Rattle.std.specs.Prelude.{Option}
 use native.Mathlib.Nat.{sub-zero}
 use native.Mathlib.Omega.{arith}
 use lib.ListN.{length, take, drop}
@@ -50,9 +50,9 @@ module _ {kind : LineKind} {text : List ℕ} {count : ℕ} {begun : Registration
   pub reading_ends : count ≤ i
       → Reached text begun (kind.read 0 count begun (drop start text)) (record { verdict = Accepted; registration = r; at = at })
   reading_ends h =
-      let none : count - i ≡ 0 = omega arith in
+      let None : count - i ≡ 0 = omega arith in
       record {
-        stage = sym (reading.stage ∙ rw none (kind.none_left i r (drop at text)));
+        stage = sym (reading.stage ∙ rw None (kind.none_left i r (drop at text)));
         within = reading.within;
         producers = reading.producers;
         consumers = reading.consumers;

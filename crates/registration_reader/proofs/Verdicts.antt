@@ -3,7 +3,7 @@ use Prim.Native.Nat.{ℕ, ◌≤◌, ◌<◌}
 use mathlib.Core.Path.{◌≡◌}
 use mathlib.Core.Bool.{true, false}
 use mathlib.Core.List.{List, [], ◌∷◌}
-use mathlib.Core.Option.{Option, none, some}
+use Rattle.std.specs.Prelude.{Option, None, Some}
 use borrow.Author.Tests.{le-leb, lt-leb}
 use lib.Dec.{leb}
 use lib.ListN.{length}
@@ -19,41 +19,41 @@ use Rattle.registration_text.specs.Reader.{verdict_g, verdict_d, verdict_o, verd
 
 -- ---- G
 
-pub group_none : Refused NotInColumns ≡ verdict_g none
+pub group_none : Refused NotInColumns ≡ verdict_g None
 unfolding verdict_g
 group_none = search refusals
 
 module _ (producers consumers iteration : ℕ) where
-  pub group_outside : point_counts_right producers consumers ≡ false → Refused CountOutside ≡ verdict_g (some (producers ∷ consumers ∷ iteration ∷ []))
+  pub group_outside : point_counts_right producers consumers ≡ false → Refused CountOutside ≡ verdict_g (Some (producers ∷ consumers ∷ iteration ∷ []))
   unfolding verdict_g
   group_outside t = search refusals
 
   pub group_above : point_counts_right producers consumers ≡ true → 1 < iteration
-      → Refused StatusOrIterationAbove ≡ verdict_g (some (producers ∷ consumers ∷ iteration ∷ []))
+      → Refused StatusOrIterationAbove ≡ verdict_g (Some (producers ∷ consumers ∷ iteration ∷ []))
   unfolding verdict_g
   group_above t h = search refusals
 
   pub group_right_lem : point_counts_right producers consumers ≡ true → iteration ≤ 1
-      → Accepted ≡ verdict_g (some (producers ∷ consumers ∷ iteration ∷ []))
+      → Accepted ≡ verdict_g (Some (producers ∷ consumers ∷ iteration ∷ []))
   unfolding verdict_g
   group_right_lem t h = search refusals
 
 -- ---- D
 
-pub producer_none : Refused NotInColumns ≡ verdict_d none
+pub producer_none : Refused NotInColumns ≡ verdict_d None
 unfolding verdict_d
 producer_none = search refusals
 
 module _ (code status : ℕ) where
-  pub producer_above : 3 < status → Refused StatusOrIterationAbove ≡ verdict_d (some (code ∷ status ∷ []))
+  pub producer_above : 3 < status → Refused StatusOrIterationAbove ≡ verdict_d (Some (code ∷ status ∷ []))
   unfolding verdict_d
   producer_above h = search refusals
 
-  pub producer_false : status ≤ 3 → is_code code ≡ false → Refused CodeFalse ≡ verdict_d (some (code ∷ status ∷ []))
+  pub producer_false : status ≤ 3 → is_code code ≡ false → Refused CodeFalse ≡ verdict_d (Some (code ∷ status ∷ []))
   unfolding verdict_d
   producer_false h t = search refusals
 
-  pub producer_right : status ≤ 3 → is_code code ≡ true → Accepted ≡ verdict_d (some (code ∷ status ∷ []))
+  pub producer_right : status ≤ 3 → is_code code ≡ true → Accepted ≡ verdict_d (Some (code ∷ status ∷ []))
   unfolding verdict_d
   producer_right h t = search refusals
 
@@ -70,38 +70,38 @@ module _ (count : ℕ) where
   count_right_lem h k = and_both (leb 1 count) (leb count 5) (le-leb 1 count h) (le-leb count 5 k)
 
 module _ (producers : ℕ) (rest : Option (List ℕ)) where
-  pub consumer_none : Refused NotInColumns ≡ verdict_o producers none rest
+  pub consumer_none : Refused NotInColumns ≡ verdict_o producers None rest
   unfolding verdict_o
   consumer_none = search refusals
 
   module _ (code status count : ℕ) where
-    pub consumer_outside : count_right count ≡ false → Refused CountOutside ≡ verdict_o producers (some (code ∷ status ∷ count ∷ [])) rest
+    pub consumer_outside : count_right count ≡ false → Refused CountOutside ≡ verdict_o producers (Some (code ∷ status ∷ count ∷ [])) rest
     unfolding verdict_o
     consumer_outside t = search refusals
 
     module _ (counted : count_right count ≡ true) where
-      pub consumer_unread : is_none rest ≡ true → Refused NotInColumns ≡ verdict_o producers (some (code ∷ status ∷ count ∷ [])) rest
+      pub consumer_unread : is_none rest ≡ true → Refused NotInColumns ≡ verdict_o producers (Some (code ∷ status ∷ count ∷ [])) rest
       unfolding verdict_o
       consumer_unread t = search refusals
 
       module _ (read : is_none rest ≡ false) where
-        pub consumer_above : 3 < status → Refused StatusOrIterationAbove ≡ verdict_o producers (some (code ∷ status ∷ count ∷ [])) rest
+        pub consumer_above : 3 < status → Refused StatusOrIterationAbove ≡ verdict_o producers (Some (code ∷ status ∷ count ∷ [])) rest
         unfolding verdict_o
         consumer_above h = search refusals depth 8
 
         module _ (within : status ≤ 3) where
-          pub consumer_false : is_code code ≡ false → Refused CodeFalse ≡ verdict_o producers (some (code ∷ status ∷ count ∷ [])) rest
+          pub consumer_false : is_code code ≡ false → Refused CodeFalse ≡ verdict_o producers (Some (code ∷ status ∷ count ∷ [])) rest
           unfolding verdict_o
           consumer_false t = search refusals depth 8
 
           module _ (true_code : is_code code ≡ true) where
             pub consumer_wrong : pairs_right producers count (source_in rest) (key_in rest) ≡ false
-                → Refused ProducerOrKeyWrong ≡ verdict_o producers (some (code ∷ status ∷ count ∷ [])) rest
+                → Refused ProducerOrKeyWrong ≡ verdict_o producers (Some (code ∷ status ∷ count ∷ [])) rest
             unfolding verdict_o
             consumer_wrong t = search refusals depth 8
 
             pub consumer_right_lem : pairs_right producers count (source_in rest) (key_in rest) ≡ true
-                → Accepted ≡ verdict_o producers (some (code ∷ status ∷ count ∷ [])) rest
+                → Accepted ≡ verdict_o producers (Some (code ∷ status ∷ count ∷ [])) rest
             unfolding verdict_o
             consumer_right_lem t = search refusals depth 8
 

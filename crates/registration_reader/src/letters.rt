@@ -1,6 +1,5 @@
 // The column readers for the letters G, D and O: each is handed one line, a part of the caller's text.
-ghost use Rattle.std.specs.Prelude.{◌≡◌, ℕ, ◌+◌, ◌*◌, ◌≤◌, ◌<◌, length, get_or};
-ghost use Rattle.std.proofs.Math.Option.{none};
+ghost use Rattle.std.specs.Prelude.{◌≡◌, ℕ, ◌+◌, ◌*◌, ◌≤◌, ◌<◌, length, get_or, None};
 ghost use Rattle.columns.specs.Fields.{nth, numbers_in};
 ghost use Rattle.lines.specs.Lines.{line_in, three_of};
 ghost use Rattle.registration_text.specs.Lines.{letter_g, letter_d, widths_g, widths_d, widths_of_pairs};
@@ -126,7 +125,7 @@ fn pair_numbers(bytes: &[u8], count: usize) -> Pairs
 
 // What stands for numbers that are not in their columns.
 fn no_pairs() -> Pairs
-    ensures { result ≡ by_priority none }
+    ensures { result ≡ by_priority None }
 {
     Pairs {
         good: false,

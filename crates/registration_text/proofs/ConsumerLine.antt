@@ -3,7 +3,7 @@ use Prim.Native.Nat.{ℕ, suc, ◌+◌, ◌*◌}
 use mathlib.Core.Path.{◌≡◌, refl, sym, ap, ◌∙◌}
 use mathlib.Core.Bool.{true, false}
 use mathlib.Core.List.{List, [], ◌∷◌, ◌++◌, append_assoc}
-use mathlib.Core.Option.{Option, none, some}
+use Rattle.std.specs.Prelude.{Option, None, Some}
 use native.Mathlib.Omega.{arith}
 use native.Mathlib.Nat.{zero-add}
 use borrow.Author.Tests.{eq-eqb, eqb-true, le-leb}
@@ -57,11 +57,11 @@ module _ (count : ℕ) (fixed pairs : List ℕ) (fits : fitting widths_o fixed �
   length_whole : length whole ≡ 10 * count + 25
   length_whole = rw (length-append, length_fixed, length-append, length_rest) (omega arith)
 
-  whole_fixed : fixed_in whole ≡ some fixed
+  whole_fixed : fixed_in whole ≡ Some fixed
   unfolding fixed_in
   whole_fixed = rw (le-leb 24 (length whole) (omega (arith, length_whole))) (fields_read_back widths_o fixed rest fits)
 
-  whole_rest : rest_in count whole ≡ some pairs
+  whole_rest : rest_in count whole ≡ Some pairs
   unfolding rest_in
   whole_rest =
       let n : 10 * count + 24 ≡ suc (23 + 10 * count) = omega arith in
@@ -73,7 +73,7 @@ module _ (count : ℕ) (fixed pairs : List ℕ) (fits : fitting widths_o fixed �
       rw (eq-eqb _ _ length_whole, eq-eqb _ _ e, drop_at (columns_of widths_o fixed) rest 23 length_fixed)
       (fields_read_back (widths_of_pairs count) pairs (10 ∷ []) fit)
 
-consumer_written : (count : ℕ) (line fixed pairs : List ℕ) → fixed_in line ≡ some fixed → rest_in count line ≡ some pairs
+consumer_written : (count : ℕ) (line fixed pairs : List ℕ) → fixed_in line ≡ Some fixed → rest_in count line ≡ Some pairs
     → (line ≡ line_of letter_o (widths_o ++ widths_of_pairs count) (fixed ++ pairs)) × (fitting widths_o fixed ≡ true)
     × (fitting (widths_of_pairs count) pairs ≡ true)
 unfolding fixed_in rest_in total
@@ -96,7 +96,7 @@ consumer_written count (byte ∷ bytes) fixed pairs e q =
 
 -- a text that begins with a consumer's line is read so, and one whose first line is read begins with it
 pub begins_consumer_read : (l : Said) (rest : List ℕ) → fitting widths_o (fixed_said l) ≡ true → fitting (widths_of_pairs l.count) (pairs_said l) ≡ true
-    → (fixed_in (first_line (line_said l ++ rest)) ≡ some (fixed_said l)) × (rest_in l.count (first_line (line_said l ++ rest)) ≡ some (pairs_said l))
+    → (fixed_in (first_line (line_said l ++ rest)) ≡ Some (fixed_said l)) × (rest_in l.count (first_line (line_said l ++ rest)) ≡ Some (pairs_said l))
     × (after_line (line_said l ++ rest) ≡ rest)
 begins_consumer_read l rest fits fit =
     let n = l.count in
@@ -118,13 +118,13 @@ begins_consumer_written text e q = go (fixed_in (first_line text)) (rest_in (nth
   where
     go : (fixed rest : Option (List ℕ)) → fixed_in (first_line text) ≡ fixed → rest_in (nth 2 fixed) (first_line text) ≡ rest
         → is_none fixed ≡ false → is_none rest ≡ false → text ≡ line_said (said_by fixed rest) ++ after_line text
-    go none rest f g e q = let z : ◌≡◌ {A = ℕ} 0 1 = cc in absurd (omega arith)
-    go (some ns) none f g e q = let z : ◌≡◌ {A = ℕ} 0 1 = cc in absurd (omega arith)
-    go (some ns) (some ms) f g e q =
+    go None rest f g e q = let z : ◌≡◌ {A = ℕ} 0 1 = cc in absurd (omega arith)
+    go (Some ns) None f g e q = let z : ◌≡◌ {A = ℕ} 0 1 = cc in absurd (omega arith)
+    go (Some ns) (Some ms) f g e q =
         let count = get_or ns 2 0 in
         let w = consumer_written count (first_line text) ns ms f g in
         let three : ns ≡ get_or ns 0 0 ∷ get_or ns 1 0 ∷ count ∷ [] = listed 3 ns (sym (fitting_length widths_o ns w.1)) in
         let l : length ms ≡ 2 * count = sym (fitting_length (widths_of_pairs count) ms w.2) ∙ length_widths count in
-        let pairs : pairs_from (source_in (some ms)) (key_in (some ms)) 0 count ≡ ms =
-        pairs_listed (source_in (some ms)) (key_in (some ms)) 0 count ms l (λ k h. (rw zero-add, rw zero-add)) in
+        let pairs : pairs_from (source_in (Some ms)) (key_in (Some ms)) 0 count ≡ ms =
+        pairs_listed (source_in (Some ms)) (key_in (Some ms)) 0 count ms l (λ k h. (rw zero-add, rw zero-add)) in
         begins text _ (w.0 ∙ ap (line_of letter_o (widths_o ++ widths_of_pairs count)) (ap (λ (ls : List ℕ). ls ++ ms) three ∙ cc pairs))

@@ -4,7 +4,7 @@ use Prim.Native.Nat.{ℕ, suc, ◌≤◌, ◌<◌}
 use mathlib.Core.Path.{◌≡◌, refl, sym, ap, ◌∙◌}
 use mathlib.Core.Bool.{true, false, not, ◌&&◌}
 use mathlib.Core.List.{List, [], ◌∷◌, ◌++◌}
-use mathlib.Core.Option.{Option, some}
+use Rattle.std.specs.Prelude.{Option, Some}
 use native.Mathlib.Omega.{arith}
 use native.Mathlib.Nat.{zero-add}
 use borrow.Author.Tests.{le-ltb, ltb-false, leb-true, lt-ltb, not-false}
@@ -44,7 +44,7 @@ pub record GroupGood (producers consumers iteration : ℕ) : Type 0 where
   pub iterated : iteration ≤ 1
 
 module _ (producers consumers iteration : ℕ) (good : GroupGood producers consumers iteration) where
-  accepts__g : verdict_g (some (producers ∷ consumers ∷ iteration ∷ [])) ≡ Accepted
+  accepts__g : verdict_g (Some (producers ∷ consumers ∷ iteration ∷ [])) ≡ Accepted
   unfolding verdict_g refuse◌if◌else◌
   accepts__g = rw (good.counted, le-ltb 1 iteration good.iterated)
 
@@ -100,7 +100,7 @@ small_code code t =
     omega (arith, leb-true code 999999999999999999 b.1)
 
 module _ (code status : ℕ) (good : PointGood code status) where
-  accepts__d : verdict_d (some (code ∷ status ∷ [])) ≡ Accepted
+  accepts__d : verdict_d (Some (code ∷ status ∷ [])) ≡ Accepted
   unfolding verdict_d refuse◌if◌else◌
   accepts__d = rw (le-ltb 3 status good.stated, good.coded)
 
@@ -161,17 +161,17 @@ pub record ConsumerGood (producers : ℕ) (l : Said) : Type 0 where
 
 module _ (l : Said) where
   -- the numbers and keys in the columns are those of the line
-  source_at_lem : (k : ℕ) → k < l.count → source_in (some (pairs_said l)) k ≡ l.source k
+  source_at_lem : (k : ℕ) → k < l.count → source_in (Some (pairs_said l)) k ≡ l.source k
   source_at_lem k h = rw zero-add at (pairs_at l.source l.key 0 l.count k h).0
 
-  key_at_lem : (k : ℕ) → k < l.count → key_in (some (pairs_said l)) k ≡ l.key k
+  key_at_lem : (k : ℕ) → k < l.count → key_in (Some (pairs_said l)) k ≡ l.key k
   key_at_lem k h = rw zero-add at (pairs_at l.source l.key 0 l.count k h).1
 
 module _ (producers : ℕ) (l : Said) (good : ConsumerGood producers l) where
-  accepts__o : verdict_o producers (some (fixed_said l)) (some (pairs_said l)) ≡ Accepted
+  accepts__o : verdict_o producers (Some (fixed_said l)) (Some (pairs_said l)) ≡ Accepted
   unfolding verdict_o refuse◌if◌else◌
   accepts__o =
-      let ns = some (pairs_said l) in
+      let ns = Some (pairs_said l) in
       let same = pairs_same producers l.count (source_in ns) l.source (key_in ns) l.key (source_at_lem l) (key_at_lem l) in
       rw (good.counted, le-ltb 3 l.status good.point.stated, good.point.coded, same ∙ good.paired)
 
@@ -222,7 +222,7 @@ module _ (consumer left : ℕ) (r : Registration) where
       → read_o consumer (suc left) r (line_said l ++ rest) ≡ read_o (suc consumer) left (with_one r consumer l) rest
   step__o l rest good few =
       let a = begins_consumer_read l rest (fits__o r.producers l good) (fits_pairs r.producers l good few) in
-      let ns = some (pairs_said l) in
+      let ns = Some (pairs_said l) in
       clause__o _
       ∙ rw (a.0, a.1, a.2, accepts__o r.producers l good)
       (ap (λ (t : Registration). read_o (suc consumer) left t rest) (one_same r consumer l (source_in ns) (key_in ns) (source_at_lem l) (key_at_lem l)))

@@ -1,6 +1,5 @@
 -- Reading a registration's text: G, the D lines, the O lines in turn, then what concerns the whole. Each order of refusals is one chain. Assumes nothing.
-use Rattle.std.specs.Prelude.{ℕ, zero, suc, ◌+◌, ◌*◌, cond, not, ◌&&◌, List, length, get_or, set, drop, leb, ltb, eqb}
-use Rattle.std.proofs.Math.Option.{Option, none}
+use Rattle.std.specs.Prelude.{ℕ, zero, suc, ◌+◌, ◌*◌, cond, not, ◌&&◌, List, length, get_or, set, drop, leb, ltb, eqb, Option, None}
 use Rattle.answers.specs.declared.Refusal.{Refusal}
 use Rattle.answers.specs.declared.Refusal.TheVariants.{NotInColumns, CodeFalse, CountOutside, CodeTwice, StatusOrIterationAbove, ProducerOrKeyWrong, KeysAbove}
 use Rattle.answers.specs.declared.Verdict.{Verdict}
@@ -20,14 +19,14 @@ use Rattle.registration_text.specs.Lines.{letter_g, letter_d, letter_o, widths_g
 
 -- the numbers of an O line's fixed part, its first 24 bytes
 unfoldable pub fixed_in : List ℕ → Option (List ℕ)
-fixed_in line = cond (leb 24 (length line) && eqb (get_or line 0 0) letter_o) (numbers_in widths_o (drop 1 line)) none
+fixed_in line = cond (leb 24 (length line) && eqb (get_or line 0 0) letter_o) (numbers_in widths_o (drop 1 line)) None
 
 -- the numbers of an O line's rest: so many producers' numbers and keys, LF, and nothing else
 unfoldable pub rest_in : ℕ → List ℕ → Option (List ℕ)
 rest_in count line =
     cond (eqb (length line) (10 * count + 25) && eqb (get_or line (10 * count + 24) 0) 10)
     (numbers_in (widths_of_pairs count) (drop 24 line))
-    none
+    None
 
 -- G: 1, 3, 5
 unfoldable pub verdict_g : Option (List ℕ) → Verdict

@@ -3,7 +3,7 @@ use Prim.Native.Nat.{ℕ, ◌*◌, ◌≤◌}
 use native.Mathlib.Omega.{arith}
 use mathlib.Core.Path.{◌≡◌, refl}
 use mathlib.Core.List.{List, []}
-use mathlib.Core.Option.{Option, none, some}
+use Rattle.std.specs.Prelude.{Option, None, Some}
 use Rattle.values.specs.declared.Measurement.{Measurement}
 use lib.ListN.{length}
 use Rattle.answers.specs.declared.Verdict.{Verdict}
@@ -31,8 +31,8 @@ use Rattle.group.proofs.Looking.{never_accepted}
 
 -- what is shown as of T has a stamp of at most T
 stamp_shown : (T : ℕ) (rs : List Reading) (o : Option Reading) → ShowsNewest T rs o → stamp_of o ≤ T
-stamp_shown T rs none k = omega arith
-stamp_shown T rs (some m) k = k.within_time
+stamp_shown T rs None k = omega arith
+stamp_shown T rs (Some m) k = k.within_time
 
 -- a refused call returns 0, an accepted one what its own law says
 module _ (last : ℕ) (G : Group) (lent : List ℕ) (after : After) where

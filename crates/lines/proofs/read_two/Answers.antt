@@ -1,7 +1,7 @@
 -- `lines::read_two` meets its contract: column by column, by `Parts.antt`. Assumes nothing.
 use mathlib.Core.Path.{◌≡◌, sym, ap, ◌∙◌}
 use mathlib.Core.List.{[], ◌∷◌}
-use mathlib.Core.Option.{some}
+use Rattle.std.specs.Prelude.{Some}
 use native.Mathlib.Omega.{arith}
 use lib.ListN.{drop}
 use lib.Seq.{length-take-le}
@@ -18,7 +18,7 @@ first : (c : After-read_number) (n : Number) → c.read_number.result ≡ n → 
 first c n e = first_column _ _ _ n (sym e ∙ c.read_number.ensures)
 
 second : (c : After-read_number-2) (n : Number) → c.read_number-2.result ≡ n → let a = c.args in
-    with_first (Is c.in-Is.one) (with_first n (some [])) ≡ numbers_in (a.first ∷ a.second ∷ []) a.bytes.now
+    with_first (Is c.in-Is.one) (with_first n (Some [])) ≡ numbers_in (a.first ∷ a.second ∷ []) a.bytes.now
 second c n e =
     ap (with_first (Is c.in-Is.one)) (last_part _ _ _ n (sym e ∙ c.read_number-2.ensures)) ∙ first_column _ _ _ _ (sym c.in-Is.is ∙ c.read_number.ensures)
 

@@ -3,7 +3,7 @@ use Prim.Native.Nat.{ℕ}
 use mathlib.Core.Path.{◌≡◌, sym, ap, ◌∙◌}
 use mathlib.Core.Bool.{Bool, not}
 use mathlib.Core.List.{List, [], ◌∷◌}
-use mathlib.Core.Option.{Option, some}
+use Rattle.std.specs.Prelude.{Option, Some}
 use native.Mathlib.Omega.{arith}
 use borrow.Author.Tests.{not-true, not-false}
 use Rattle.answers.specs.declared.Refusal.TheVariants.{NotInColumns, CodeFalse, CountOutside, StatusOrIterationAbove, ProducerOrKeyWrong}
@@ -21,8 +21,8 @@ use Rattle.registration_reader.proofs.Placing.{consumer_placed}
 use Rattle.registration_reader.proofs.letters.read_consumer.Goals as goal
 
 -- an answer by the numbers that were found is one by the line
-module _ (line : List ℕ) (r : Registration) (consumer code status count : ℕ) (is : some (code ∷ status ∷ count ∷ []) ≡ fixed_in line) where
-  by_line : (a : Answer) → a ≡ consumer_answer (some (code ∷ status ∷ count ∷ [])) (rest_in count line) r consumer
+module _ (line : List ℕ) (r : Registration) (consumer code status count : ℕ) (is : Some (code ∷ status ∷ count ∷ []) ≡ fixed_in line) where
+  by_line : (a : Answer) → a ≡ consumer_answer (Some (code ∷ status ∷ count ∷ [])) (rest_in count line) r consumer
       → a ≡ consumer_answer (fixed_in line) (rest_in (nth 2 (fixed_in line)) line) r consumer
   by_line a e = e ∙ ap (λ (f : Option (List ℕ)). consumer_answer f (rest_in (nth 2 f) line) r consumer) is
 
