@@ -22,11 +22,9 @@ unfolding value_from
 value_from_cons v byte bytes = refl
 
 pub same_bytes_cons : (x y : ℕ) (xs ys : List ℕ) → same_bytes (x ∷ xs) (y ∷ ys) ≡ (eqb x y && same_bytes xs ys)
-unfolding same_bytes
 same_bytes_cons x y xs ys = refl
 
 pub has_minus_cons : (byte : ℕ) (bytes : List ℕ) → has_minus (byte ∷ bytes) ≡ (eqb byte 45 || has_minus bytes)
-unfolding has_minus
 has_minus_cons byte bytes = refl
 
 pub total_nil : total [] ≡ 0

@@ -1,47 +1,64 @@
 -- What the tests of a column come to, as the readers make them. Assumes nothing.
 use Prim.Native.Nat.{ℕ, ◌^◌, ◌-◌, ◌≤◌, ◌<◌}
-use mathlib.Core.Path.{◌≡◌}
-use mathlib.Core.Bool.{Bool, true, false, not, ◌&&◌}
-use mathlib.Core.List.{List}
+use mathlib.Core.Path.{◌≡◌, refl, sym, ◌∙◌}
+use mathlib.Core.Bool.{Bool, true, false, cond, not, ◌&&◌}
+use mathlib.Core.List.{List, ◌++◌}
 use native.Mathlib.Omega.{arith}
 use borrow.Author.Tests.{eqb-true, leb-true}
 use lib.Dec.{leb, eqb}
-use lib.ListN.{length, get_or}
-use Rattle.columns.specs.declared.Number.TheVariants.{Bad}
-use Rattle.columns.specs.declared.Signed.TheVariants.{Bad as BadSigned}
-use Rattle.columns.specs.Column.{column_of, value_from, same_bytes, has_minus, number_if, number_in, signed_if, signed_in, space_byte, widest}
+use lib.IntN.{ℤ}
+use lib.ListN.{length, get_or, take}
+use lib.Seq.{take_at, length-take-le}
+use Rattle.std.specs.Prelude.{Option, None, Some}
+use Rattle.columns.specs.Column.{column_of, value_from, is_column, has_minus, number_if, signed_if, signed_in, space_byte, widest}
 use Rattle.lists.proofs.Below.{both}
+use Rattle.columns.proofs.Fill.{length_column}
 use Rattle.columns.proofs.Values.{value_room, most}
 
-abbrev pub begins : List ℕ → Bool
-begins column = leb (length column) widest && eqb (get_or column 0 0) space_byte
+-- what a column's width takes of the places, once that many are written
+pub written_places : (minus : Bool) (value : ℕ) (column places out rest : List ℕ) → length column ≤ length places
+    → out ≡ column_of minus (length (take (length column) places)) value
+    → take (length column) (out ++ rest) ≡ column_of minus (length column) value
+written_places minus value column places out rest h e =
+    let w : length (take (length column) places) ≡ length column = length-take-le (length column) places h in
+    let o : out ≡ column_of minus (length column) value = rw w at e in
+    rw o (take_at (column_of minus (length column) value) rest (length column) (length_column minus (length column) value))
 
-module _ (column : List ℕ) where
-  pub narrow : begins column ≡ true → length column ≤ widest
-  narrow b = leb-true _ _ (both _ _ b).0
+-- a number that is given was in its column
+number_given : (t : Bool) (v n : ℕ) → number_if t v ≡ Some n → (t ≡ true) × (v ≡ n)
+number_given true v n e = (refl, cc)
+number_given false v n e = let z : ◌≡◌ {A = ℕ} 0 1 = cc in absurd (omega arith)
 
-  -- a column's value fits an i64 with either sign
-  pub value_fits : begins column ≡ true → value_from 0 column < 10 ^ 18
-  value_fits b =
-      let l : length column ≤ widest = narrow b in
-      let v = (value_room column (eqb-true _ _ (both (leb (length column) widest) _ b).1)).1 in
-      omega (arith, most (length column - 1) 18 (omega arith))
+not_given : (t : Bool) (v : ℕ) → number_if t v ≡ None → t ≡ false
+not_given true v e = let z : ◌≡◌ {A = ℕ} 0 1 = cc in absurd (omega arith)
+not_given false v e = refl
 
-  pub number_refused : begins column ≡ false → Bad ≡ number_in column
-  unfolding number_in
-  number_refused b = rw b
-
-  pub signed_refused : begins column ≡ false → BadSigned ≡ signed_in column
+-- the number in a column, with a minus or not as the column has one
+module _ (column : List ℕ) (minus : Bool) (m : minus ≡ has_minus column) (answer : Option ℕ)
+    (a : answer ≡ number_if (is_column minus column) (value_from 0 column)) where
+  pub signed_refused : answer ≡ None → None ≡ signed_in column
   unfolding signed_in
-  signed_refused b = rw b
+  signed_refused e =
+      let t : is_column minus column ≡ false = not_given (is_column minus column) (value_from 0 column) (sym a ∙ e) in
+      let u : is_column (has_minus column) column ≡ false = rw m at t in
+      rw u
 
-  module _ (n : ℕ) (b : begins column ≡ true) (e : n ≡ value_from 0 column) where
-    pub number_judged : (test : Bool) → same_bytes (column_of false (length column) n) column ≡ test → number_if test n ≡ number_in column
-    unfolding number_in
-    number_judged test t = rw (b, ← e, t)
+  module _ (n : ℕ) (e : answer ≡ Some n) where
+    given : (is_column minus column ≡ true) × (value_from 0 column ≡ n)
+    given = number_given (is_column minus column) (value_from 0 column) n (sym a ∙ e)
 
-    pub signed_judged : (minus test none : Bool)
-        → has_minus column ≡ minus → same_bytes (column_of minus (length column) n) column ≡ test → eqb n 0 ≡ none
-        → signed_if (test && not (minus && none)) minus n ≡ signed_in column
+    -- it fits an i64 with either sign
+    pub value_fits : n < 2 ^ 63
+    value_fits =
+        let b = both (leb (length column) widest && eqb (get_or column 0 0) space_byte) _ given.0 in
+        let s = both (leb (length column) widest) _ b.0 in
+        let l : length column ≤ widest = leb-true _ _ s.0 in
+        let v = (value_room column (eqb-true _ _ s.1)).1 in
+        omega (arith, given.1, most (length column - 1) 18 (omega arith))
+
+    pub signed_judged : (sign none : Bool) → minus ≡ sign → eqb n 0 ≡ none → signed_if (not (sign && none)) sign n ≡ signed_in column
     unfolding signed_in
-    signed_judged minus test none m t z = rw (b, ← e, m, t, z)
+    signed_judged sign none s z =
+        let h : has_minus column ≡ sign = sym m ∙ s in
+        let u : is_column sign column ≡ true = rw s at given.0 in
+        rw (h, u, given.1, z)

@@ -11,9 +11,6 @@ use lib.Dec.{leb, eqb, eqb-suc-zero}
 use lib.IntN.{ℤ, pos, negsuc, neg_ℤ, nat_abs}
 use lib.ListN.{length, get_or, take, drop, length-drop}
 use lib.Seq.{take_at, drop_at, take-add, length-take-le}
-use Rattle.columns.specs.declared.Number.{Number}
-use Rattle.columns.specs.declared.Number.TheVariants.{Is, Bad}
-use Rattle.columns.specs.declared.Signed.TheVariants.{Is as IsSigned}
 use Rattle.columns.specs.Column.{column_of, signed_column_of, value_from, is_column, has_minus, number_if, number_in, signed_if, signed_in, space_byte, widest}
 use Rattle.columns.specs.Fields.{total, columns_of, with_first, numbers_in}
 use Rattle.columns.specs.Laws.{NumberReadBack, NumberWrittenAgain, SignedReadBack, SignedWrittenAgain, FieldsReadBack, FieldsWrittenAgain, digits}
@@ -59,7 +56,7 @@ read minus column t =
     let b = both (leb (length column) widest) _ a.0 in
     record { narrow = leb-true _ _ b.0; space = eqb-true _ _ b.1; is = same_eq _ _ a.1 }
 
-number_if_lem : (t : Bool) (v n : ℕ) → number_if t v ≡ Is n → (t ≡ true) × (v ≡ n)
+number_if_lem : (t : Bool) (v n : ℕ) → number_if t v ≡ Some n → (t ≡ true) × (v ≡ n)
 number_if_lem true v n e = (refl, cc)
 number_if_lem false v n e = let z : ◌≡◌ {A = ℕ} 0 1 = cc in absurd (omega arith)
 
@@ -98,7 +95,7 @@ signed_read_back (suc (suc (suc w))) (negsuc n) h l m =
 abbrev valued : Bool → ℕ → ℤ
 valued minus n = cond minus (neg_ℤ (pos n)) (pos n)
 
-signed_if_lem : (t minus : Bool) (n : ℕ) (value : ℤ) → signed_if t minus n ≡ IsSigned value → (t ≡ true) × (value ≡ valued minus n)
+signed_if_lem : (t minus : Bool) (n : ℕ) (value : ℤ) → signed_if t minus n ≡ Some value → (t ≡ true) × (value ≡ valued minus n)
 signed_if_lem true true n value e = (refl, cc)
 signed_if_lem true false n value e = (refl, cc)
 signed_if_lem false minus n value e = let z : ◌≡◌ {A = ℕ} 0 1 = cc in absurd (omega arith)
@@ -143,7 +140,7 @@ number_read_looks column n e =
     rw a.0 at (number_looks (length column) n a.1 a.3)
 
 -- a column that is read as a signed value has two places or more
-signed_places : (column : List ℕ) (value : ℤ) → signed_in column ≡ IsSigned value → 2 ≤ length column
+signed_places : (column : List ℕ) (value : ℤ) → signed_in column ≡ Some value → 2 ≤ length column
 unfolding signed_in
 signed_places column value e =
     let minus = has_minus column in
@@ -177,17 +174,17 @@ fields_read_back (w ∷ ws) (n ∷ ns) rest t =
     )
 
 -- the first number and the others
-record Parts (first : Number) (rest : Option (List ℕ)) (numbers : List ℕ) : Type 0 where
+record Parts (first : Option ℕ) (rest : Option (List ℕ)) (numbers : List ℕ) : Type 0 where
   n : ℕ
   ns : List ℕ
-  number : first ≡ Is n
+  number : first ≡ Some n
   others : rest ≡ Some ns
   all : numbers ≡ n ∷ ns
 
-parts : (first : Number) (rest : Option (List ℕ)) (numbers : List ℕ) → with_first first rest ≡ Some numbers → Parts first rest numbers
-parts Bad rest numbers e = let z : ◌≡◌ {A = ℕ} 0 1 = cc in absurd (omega arith)
-parts (Is n) None numbers e = let z : ◌≡◌ {A = ℕ} 0 1 = cc in absurd (omega arith)
-parts (Is n) (Some ns) numbers e = record { n = n; ns = ns; number = refl; others = refl; all = cc }
+parts : (first : Option ℕ) (rest : Option (List ℕ)) (numbers : List ℕ) → with_first first rest ≡ Some numbers → Parts first rest numbers
+parts None rest numbers e = let z : ◌≡◌ {A = ℕ} 0 1 = cc in absurd (omega arith)
+parts (Some n) None numbers e = let z : ◌≡◌ {A = ℕ} 0 1 = cc in absurd (omega arith)
+parts (Some n) (Some ns) numbers e = record { n = n; ns = ns; number = refl; others = refl; all = cc }
 
 pub fields_written_again : FieldsWrittenAgain
 fields_written_again [] bytes numbers l e =

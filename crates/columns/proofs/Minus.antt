@@ -1,4 +1,4 @@
--- Whether a minus stands among bytes: from a place on, and in what is written of a value. Assumes nothing.
+-- Whether a minus stands in what is written of a value. Assumes nothing.
 use Prim.Native.Nat.{ℕ, zero, suc, ◌+◌, ◌/◌, ◌%◌, ◌^◌, ◌<◌}
 use mathlib.Core.Path.{◌≡◌, refl, sym, ap, ◌∙◌}
 use mathlib.Core.Bool.{Bool, true, false, ◌||◌, or-false, or-true, or_assoc}
@@ -7,28 +7,14 @@ use native.Mathlib.Omega.{arith}
 use native.Mathlib.Numerals.{add-one}
 use borrow.Author.Tests.{eq-eqb, ne_eqb}
 use lib.Dec.{eqb, eqb-suc-zero}
+use Rattle.std.proofs.lemmas.List.Folds.{list_any-append}
 use lib.ListN.{length, get_or, drop}
 use lib.Seq.{drop-cons, drop-length}
 use Rattle.columns.specs.Column.{byte_before, lead_of, column_of, has_minus}
 use Rattle.columns.proofs.Values.{tenth}
 
-module _ (column : List ℕ) (i : ℕ) where
-  pub minus_here : i < length column → get_or column i 0 ≡ 45 → has_minus (drop i column) ≡ true
-  unfolding has_minus
-  minus_here h e = rw (drop-cons column i 0 h, eq-eqb (get_or column i 0) 45 e)
-
-  pub minus_later : i < length column → (get_or column i 0 ≡ 45 → ⊥) → has_minus (drop i column) ≡ has_minus (drop (i + 1) column)
-  unfolding has_minus
-  minus_later h e = rw (add-one, drop-cons column i 0 h, ne_eqb (get_or column i 0) 45 e)
-
-  pub minus_none : i ≡ length column → has_minus (drop i column) ≡ false
-  unfolding has_minus
-  minus_none e = rw (e, drop-length)
-
 minus_snoc : (bytes : List ℕ) (byte : ℕ) → has_minus (bytes ++ (byte ∷ [])) ≡ (has_minus bytes || eqb byte 45)
-unfolding has_minus
-minus_snoc [] byte = or-false (eqb byte 45)
-minus_snoc (x ∷ bytes) byte = ap (λ (t : Bool). eqb x 45 || t) (minus_snoc bytes byte) ∙ sym (or_assoc (eqb x 45) (has_minus bytes) (eqb byte 45))
+minus_snoc bytes byte = list_any-append (λ (b : ℕ). eqb b 45) bytes (byte ∷ []) ∙ ap (λ (t : Bool). has_minus bytes || t) (or-false (eqb byte 45))
 
 no_digit : (n : ℕ) → eqb (48 + n % 10) 45 ≡ false
 no_digit n = ne_eqb (48 + n % 10) 45 (λ e. omega arith)
@@ -38,17 +24,17 @@ no_space zero = refl
 no_space (suc n) = rw eqb-suc-zero (no_digit (suc n))
 
 no_lead : (w n : ℕ) → has_minus (lead_of false w n) ≡ false
-unfolding lead_of has_minus
+unfolding lead_of
 no_lead zero n = refl
 no_lead (suc w) n = minus_snoc (lead_of false w (n / 10)) (byte_before false n) ∙ rw (no_lead w (n / 10), no_space n)
 
 pub no_minus : (w n : ℕ) → has_minus (column_of false w n) ≡ false
-unfolding column_of has_minus
+unfolding column_of
 no_minus zero n = refl
 no_minus (suc w) n = minus_snoc (lead_of false w (n / 10)) (48 + n % 10) ∙ rw (no_lead w (n / 10), no_digit n)
 
 one_lead : (w n : ℕ) → n < 10 ^ w → has_minus (lead_of true (suc w) n) ≡ true
-unfolding lead_of has_minus
+unfolding lead_of
 one_lead zero n h = let e : n ≡ 0 = omega arith in rw e
 one_lead (suc w) zero h = minus_snoc (lead_of false (suc w) 0) 45 ∙ or-true (has_minus (lead_of false (suc w) 0))
 one_lead (suc w) (suc n) h = rw eqb-suc-zero (minus_snoc (lead_of true (suc w) (suc n / 10)) (48 + suc n % 10) ∙ rw (one_lead w (suc n / 10) (tenth w (suc n) h)))

@@ -1,11 +1,9 @@
 -- A number in a column of fixed width: right-justified, at least one leading space, no leading zeros; a minus stands directly before the
 -- digits, and never before 0. A column is given by what is written, and is read as a number if it is that number's. Assumes nothing.
-use Rattle.std.specs.Prelude.{ℕ, zero, suc, ◌+◌, ◌-◌, ◌*◌, ◌/◌, ◌%◌, Bool, true, false, cond, not, ◌&&◌, ◌||◌, List, [], ◌∷◌, ◌++◌, ℤ, pos, neg_ℤ, nat_abs, length, get_or, leb, ltb, eqb}
+use Rattle.std.specs.Prelude.{ℕ, zero, suc, ◌+◌, ◌-◌, ◌*◌, ◌/◌, ◌%◌, Bool, true, false, cond, not, ◌&&◌, ◌||◌, List, [], ◌∷◌, ◌++◌, ℤ, pos, neg_ℤ, nat_abs, length, get_or, leb, ltb, eqb, Option, None, Some}
+use Rattle.std.specs.List.{list_any}
+use Rattle.std.specs.Str.{bytes_eq}
 use Rattle.values.specs.Values.{is_negative}
-use Rattle.columns.specs.declared.Number.{Number}
-use Rattle.columns.specs.declared.Number.TheVariants.{Is, Bad}
-use Rattle.columns.specs.declared.Signed.{Signed}
-use Rattle.columns.specs.declared.Signed.TheVariants.{Is as IsSigned, Bad as BadSigned}
 
 -- ---- what is written
 
@@ -43,11 +41,8 @@ value_from v [] = v
 value_from v (byte ∷ bytes) = value_from (v * 10 + digit_of byte) bytes
 
 -- whether two lists of bytes are equal
-unfoldable pub same_bytes : List ℕ → List ℕ → Bool
-same_bytes [] [] = true
-same_bytes [] (y ∷ ys) = false
-same_bytes (x ∷ xs) [] = false
-same_bytes (x ∷ xs) (y ∷ ys) = eqb x y && same_bytes xs ys
+abbrev pub same_bytes : List ℕ → List ℕ → Bool
+same_bytes = bytes_eq
 
 -- the widest column that is read
 abbrev pub widest : ℕ
@@ -59,27 +54,26 @@ is_column minus column =
     leb (length column) widest && eqb (get_or column 0 0) space_byte && same_bytes (column_of minus (length column) (value_from 0 column)) column
 
 -- a number, if it was in its column
-abbrev pub number_if : Bool → ℕ → Number
-number_if true n = Is n
-number_if false n = Bad
+abbrev pub number_if : Bool → ℕ → Option ℕ
+number_if true n = Some n
+number_if false n = None
 
 -- the number in a column
-unfoldable pub number_in : List ℕ → Number
+unfoldable pub number_in : List ℕ → Option ℕ
 number_in column = number_if (is_column false column) (value_from 0 column)
 
 -- whether a minus stands among the bytes
-unfoldable pub has_minus : List ℕ → Bool
-has_minus [] = false
-has_minus (byte ∷ bytes) = eqb byte 45 || has_minus bytes
+abbrev pub has_minus : List ℕ → Bool
+has_minus bytes = list_any (λ byte. eqb byte 45) bytes
 
 -- a value with its sign, if it was in its column
-abbrev pub signed_if : Bool → Bool → ℕ → Signed
-signed_if true true n = IsSigned (neg_ℤ (pos n))
-signed_if true false n = IsSigned (pos n)
-signed_if false minus n = BadSigned
+abbrev pub signed_if : Bool → Bool → ℕ → Option ℤ
+signed_if true true n = Some (neg_ℤ (pos n))
+signed_if true false n = Some (pos n)
+signed_if false minus n = None
 
 -- the signed value in a column
-unfoldable pub signed_in : List ℕ → Signed
+unfoldable pub signed_in : List ℕ → Option ℤ
 signed_in column =
     let minus = has_minus column in
     let n = value_from 0 column in

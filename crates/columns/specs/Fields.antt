@@ -1,7 +1,5 @@
 -- Several numbers, each in a column of its own width, one after the other. Assumes nothing.
 use Rattle.std.specs.Prelude.{ℕ, ◌+◌, ◌-◌, ◌^◌, Bool, true, false, ◌&&◌, List, [], ◌∷◌, ◌++◌, take, drop, get_or, leb, ltb, Option, None, Some}
-use Rattle.columns.specs.declared.Number.{Number}
-use Rattle.columns.specs.declared.Number.TheVariants.{Is, Bad}
 use Rattle.columns.specs.Column.{column_of, number_in, widest}
 
 -- how many bytes columns of these widths take
@@ -16,10 +14,10 @@ columns_of (w ∷ ws) [] = []
 columns_of (w ∷ ws) (n ∷ ns) = column_of false w n ++ columns_of ws ns
 
 -- a first number before the others, if all were in their columns
-abbrev pub with_first : Number → Option (List ℕ) → Option (List ℕ)
-with_first Bad rest = None
-with_first (Is n) None = None
-with_first (Is n) (Some ns) = Some (n ∷ ns)
+abbrev pub with_first : Option ℕ → Option (List ℕ) → Option (List ℕ)
+with_first None rest = None
+with_first (Some n) None = None
+with_first (Some n) (Some ns) = Some (n ∷ ns)
 
 -- the numbers in the columns of these widths at the front of the bytes, if each is in its column
 unfoldable pub numbers_in : List ℕ → List ℕ → Option (List ℕ)

@@ -1,19 +1,17 @@
 -- What columns promise, as statements; `proofs/Laws.antt` proves each, once over the width. Assumes nothing.
 use Rattle.std.specs.Prelude.{ℕ, ◌+◌, ◌-◌, ◌*◌, ◌^◌, ◌≤◌, ◌<◌, ◌≡◌, true, false, cond, List, [], ◌∷◌, ◌++◌, ℤ, pos, negsuc, nat_abs, length, get_or, take, replicate, Some}
 use Rattle.values.specs.Values.{is_negative}
-use Rattle.columns.specs.declared.Number.TheVariants.{Is}
-use Rattle.columns.specs.declared.Signed.TheVariants.{Is as IsSigned}
 use Rattle.columns.specs.Column.{column_of, signed_column_of, number_in, signed_in, widest}
 use Rattle.columns.specs.Fields.{total, columns_of, numbers_in, fitting}
 
 -- a number that leaves a place for the leading space is read back from its column
 abbrev pub NumberReadBack : Type 0
-NumberReadBack = (w n : ℕ) → 2 ≤ w → w ≤ widest → n < 10 ^ (w - 1) → number_in (column_of false w n) ≡ Is n
+NumberReadBack = (w n : ℕ) → 2 ≤ w → w ≤ widest → n < 10 ^ (w - 1) → number_in (column_of false w n) ≡ Some n
 
 -- a column that is read as n is the column of n, and n leaves a place for the leading space
 abbrev pub NumberWrittenAgain : Type 0
 NumberWrittenAgain =
-    (column : List ℕ) (n : ℕ) → number_in column ≡ Is n
+    (column : List ℕ) (n : ℕ) → number_in column ≡ Some n
     → (column_of false (length column) n ≡ column) × (2 ≤ length column) × (length column ≤ widest) × (n < 10 ^ (length column - 1))
 
 -- how many places of a column a value's sign leaves to its digits
@@ -23,12 +21,12 @@ digits w value = cond (is_negative value) (w - 2) (w - 1)
 -- a signed value that leaves a place for its sign and the leading space is read back from its column
 abbrev pub SignedReadBack : Type 0
 SignedReadBack =
-    (w : ℕ) (value : ℤ) → 3 ≤ w → w ≤ widest → nat_abs value < 10 ^ digits w value → signed_in (signed_column_of w value) ≡ IsSigned value
+    (w : ℕ) (value : ℤ) → 3 ≤ w → w ≤ widest → nat_abs value < 10 ^ digits w value → signed_in (signed_column_of w value) ≡ Some value
 
 -- a column that is read as a signed value is the column of that value
 abbrev pub SignedWrittenAgain : Type 0
 SignedWrittenAgain =
-    (column : List ℕ) (value : ℤ) → signed_in column ≡ IsSigned value
+    (column : List ℕ) (value : ℤ) → signed_in column ≡ Some value
     → (signed_column_of (length column) value ≡ column) × (length column ≤ widest) × (nat_abs value < 10 ^ digits (length column) value)
 
 -- ---- how a column looks
@@ -67,12 +65,12 @@ SignedLooks =
 
 -- a column that is read as a number is spaces and that number's digits
 abbrev pub NumberReadLooks : Type 0
-NumberReadLooks = (column : List ℕ) (n : ℕ) → number_in column ≡ Is n → ColumnLooks [] (length column) n column
+NumberReadLooks = (column : List ℕ) (n : ℕ) → number_in column ≡ Some n → ColumnLooks [] (length column) n column
 
 -- a column that is read as a signed value is spaces, its sign and its magnitude's digits
 abbrev pub SignedReadLooks : Type 0
 SignedReadLooks =
-    (column : List ℕ) (value : ℤ) → signed_in column ≡ IsSigned value → ColumnLooks (sign_of value) (length column) (nat_abs value) column
+    (column : List ℕ) (value : ℤ) → signed_in column ≡ Some value → ColumnLooks (sign_of value) (length column) (nat_abs value) column
 
 -- ---- several columns
 

@@ -2,28 +2,14 @@
 #![tactic(auto)]
 
 ghost use Rattle.std.specs.Prelude.{◌≡◌, true, false, not, ◌&&◌, [], ◌∷◌, ◌+◌, ◌≤◌, ◌<◌, leb, eqb, length, get_or};
-ghost use Rattle.columns.specs.Column.{byte_before, column_of, signed_column_of, digit_of, value_from, same_bytes, has_minus, number_in, signed_in, space_byte, widest};
+ghost use Rattle.columns.specs.Column.{byte_before, column_of, signed_column_of, digit_of, value_from, same_bytes, is_column, number_if, has_minus, number_in, signed_in, space_byte, widest};
 ghost use Rattle.lists.specs.Place.{Put};
 
-// What stands in a column of a number.
-#[derive(Clone, Copy)]
-pub enum Number {
-    Is(u64),
-    Bad,
-}
-
-// What stands in a column of a signed value.
-#[derive(Clone, Copy)]
-pub enum Signed {
-    Is(i64),
-    Bad,
-}
-
 // The sign directly before the digits of a value below 0.
-pub const MINUS: u8 = 45;
+pub const MINUS: u8 = b'-';
 
 // What fills a column before its digits.
-pub const SPACE: u8 = 32;
+pub const SPACE: u8 = b' ';
 
 // The widest column that is read.
 const WIDEST: usize = 19;
@@ -32,41 +18,28 @@ const WIDEST: usize = 19;
 fn byte_before(minus: bool, n: u64) -> u8
     ensures { result ≡ byte_before minus n }
 {
-    if n == 0 {
-        if minus {
-            return MINUS;
-        }
-        return SPACE;
+    match (n, minus) {
+        (0, true) => MINUS,
+        (0, false) => SPACE,
+        _ => b'0' + (n % 10) as u8,
     }
-    48 + (n % 10) as u8
-}
-
-// Whether a minus is still due once the byte before is chosen: it is written where n is 0.
-fn still_due(minus: bool, n: u64) -> bool
-    ensures { result ≡ (minus && not (eqb n 0)) }
-{
-    if minus {
-        return n != 0;
-    }
-    false
 }
 
 // Fills a column from its right end.
 fn write_column(out: &mut [u8], minus: bool, value: u64)
     ensures { out.new ≡ column_of minus (length out.old) value }
 {
-    if out.len() == 0 {
+    if out.is_empty() {
         return;
     }
-    let mut i = out.len() - 1;
-    out[i] = 48 + (value % 10) as u8;
+    let last = out.len() - 1;
+    out[last] = b'0' + (value % 10) as u8;
     let mut n = value / 10;
     let mut due = minus;
-    while i > 0 {
-        i -= 1;
+    for i in (0..last).rev() {
         out[i] = byte_before(due, n);
-        due = still_due(due, n);
-        n = n / 10;
+        due = due && n != 0;
+        n /= 10;
     }
 }
 
@@ -81,7 +54,7 @@ pub fn write_number(out: &mut [u8], value: u64)
 pub fn write_signed(out: &mut [u8], value: i64)
     ensures { out.new ≡ signed_column_of (length out.old) value }
 {
-    write_column(out, value < 0, values::magnitude(value))
+    write_column(out, value < 0, value.unsigned_abs())
 }
 
 // The number that a digit stands for, and 0 for any other byte.
@@ -89,13 +62,7 @@ fn digit_of(byte: u8) -> u64
     ensures value { result ≡ digit_of byte }
     ensures upper_bound { result ≤ 9 }
 {
-    if byte < 48 {
-        return 0;
-    }
-    if 57 < byte {
-        return 0;
-    }
-    (byte - 48) as u64
+    if byte.is_ascii_digit() { u64::from(byte - b'0') } else { 0 }
 }
 
 // The number that a column's digits make, whatever else stands there.
@@ -103,11 +70,9 @@ fn value_of(column: &[u8]) -> u64
     requires { length column.now ≤ widest }
     ensures { result ≡ value_from 0 column.now }
 {
-    let mut value: u64 = 0;
-    let mut i = 0;
-    while i < column.len() {
-        value = value * 10 + digit_of(column[i]);
-        i += 1;
+    let mut value = 0;
+    for byte in column {
+        value = value * 10 + digit_of(*byte);
     }
     value
 }
@@ -116,107 +81,49 @@ fn value_of(column: &[u8]) -> u64
 fn begins_well(column: &[u8]) -> bool
     ensures { result ≡ (leb (length column.now) widest && eqb (get_or column.now 0 0) space_byte) }
 {
-    if WIDEST < column.len() {
-        return false;
-    }
-    if column.len() == 0 {
-        return false;
-    }
-    column[0] == SPACE
+    column.len() <= WIDEST && column.first() == Some(&SPACE)
 }
 
-// Whether a column is what is written of a value, compared from its right end.
+// Whether a column is what is written of a value.
 fn is_written(column: &[u8], minus: bool, value: u64) -> bool
+    requires { length column.now ≤ widest }
     ensures { result ≡ same_bytes (column_of minus (length column.now) value) column.now }
 {
-    if column.len() == 0 {
-        return true;
+    let mut places = [0; WIDEST];
+    write_column(&mut places[..column.len()], minus, value);
+    &places[..column.len()] == column
+}
+
+// The number that a column's digits make, if the column is what is written of it, with or without a minus.
+fn read_digits(column: &[u8], minus: bool) -> Option<u64>
+    ensures { result ≡ number_if (is_column minus column.now) (value_from 0 column.now) }
+{
+    if !begins_well(column) {
+        return None;
     }
-    let mut i = column.len() - 1;
-    if column[i] != 48 + (value % 10) as u8 {
-        return false;
-    }
-    let mut n = value / 10;
-    let mut due = minus;
-    while i > 0 {
-        i -= 1;
-        if column[i] != byte_before(due, n) {
-            return false;
-        }
-        due = still_due(due, n);
-        n = n / 10;
-    }
-    true
+    let value = value_of(column);
+    is_written(column, minus, value).then_some(value)
 }
 
 // The number in a column.
-pub fn read_number(column: &[u8]) -> Number
+pub fn read_number(column: &[u8]) -> Option<u64>
     ensures { result ≡ number_in column.now }
 {
-    if begins_well(column) {
-        let value = value_of(column);
-        if is_written(column, false, value) {
-            return Number::Is(value);
-        }
-        return Number::Bad;
-    }
-    Number::Bad
+    read_digits(column, false)
 }
 
-// Whether a minus stands in a column.
-fn has_minus(column: &[u8]) -> bool
-    ensures { result ≡ has_minus column.now }
-{
-    let mut i = 0;
-    while i < column.len() {
-        if column[i] == MINUS {
-            return true;
-        }
-        i += 1;
-    }
-    false
-}
-
-// The signed value in a column.
-pub fn read_signed(column: &[u8]) -> Signed
+// The signed value in a column: a minus never stands before 0.
+pub fn read_signed(column: &[u8]) -> Option<i64>
     ensures { result ≡ signed_in column.now }
 {
-    if begins_well(column) {
-        let value = value_of(column);
-        let signed = value as i64;
-        if has_minus(column) {
-            if is_written(column, true, value) {
-                if value == 0 {
-                    return Signed::Bad;
-                }
-                let below = -signed;
-                return Signed::Is(below);
-            }
-            return Signed::Bad;
-        }
-        if is_written(column, false, value) {
-            return Signed::Is(signed);
-        }
-        return Signed::Bad;
+    let minus = column.contains(&MINUS);
+    let value = read_digits(column, minus)?;
+    let signed = value as i64;
+    if !minus {
+        return Some(signed);
     }
-    Signed::Bad
-}
-
-// Puts one byte at a place of a buffer, and returns the place after it.
-pub fn put_byte(out: &mut [u8], at: usize, byte: u8) -> usize
-    requires { at < length out.old }
-    ensures { Put at (byte ∷ []) out.old out.new result }
-{
-    out[at] = byte;
-    at + 1
-}
-
-// Puts a number in a column at a place of a buffer, and returns the place after it.
-pub fn put_number(out: &mut [u8], at: usize, width: usize, value: u64) -> usize
-    requires { at + width ≤ length out.old }
-    ensures { Put at (column_of false width value) out.old out.new result }
-{
-    let end = at + width;
-    write_number(&mut out[at..end], value);
-    end
+    if value == 0 {
+        return None;
+    }
+    Some(-signed)
 }

@@ -1,12 +1,9 @@
--- What the loop of `columns::value_of` keeps. Assumes nothing.
-use Prim.Native.Nat.{◌-◌, ◌^◌, ◌≤◌, ◌<◌}
+-- What the loop of `columns::value_of` keeps.
+use Prim.Native.Nat.{◌^◌, ◌<◌}
 use mathlib.Core.Path.{◌≡◌}
-use lib.ListN.{length, drop}
+use lib.ListN.{drop}
 use Rattle.columns.specs.Column.{value_from}
 use Rattle.columns.proofs.value_of.Given as goal
 
-abbrev pub invariant-loop-i : goal.invariant-loop-i
-invariant-loop-i l = (l.i ≤ length l.column) × (l.value < 10 ^ l.i) × (value_from 0 l.column ≡ value_from l.value (drop l.i l.column))
-
-abbrev pub decreases-loop-i : goal.decreases-loop-i
-decreases-loop-i l = length l.column - l.i
+abbrev pub invariant-loop-byte : goal.invariant-loop-byte
+invariant-loop-byte l = (l.value < 10 ^ l.byte-index) × (value_from 0 l.column ≡ value_from l.value (drop l.byte-index l.column))

@@ -1,5 +1,4 @@
--- What the loop of `columns::write_column` keeps. Assumes nothing.
-use Prim.Native.Nat.{◌≤◌}
+-- What the loop of `columns::write_column` keeps.
 use mathlib.Core.Path.{◌≡◌}
 use mathlib.Core.List.{◌++◌}
 use lib.ListN.{length, drop}
@@ -7,7 +6,4 @@ use Rattle.columns.specs.Column.{lead_of, column_of}
 use Rattle.columns.proofs.write_column.Given as goal
 
 abbrev pub invariant-loop-i : goal.invariant-loop-i
-invariant-loop-i l = (l.i ≤ length l.out) × (length l.out ≡ length l.initial.out) × (column_of l.minus (length l.initial.out) l.value ≡ lead_of l.due l.i l.n ++ drop l.i l.out)
-
-abbrev pub decreases-loop-i : goal.decreases-loop-i
-decreases-loop-i l = l.i
+invariant-loop-i l = column_of l.minus (length l.initial.out) l.value ≡ lead_of l.due l.i l.n ++ drop l.i l.out
