@@ -1,5 +1,4 @@
 -- What the loop of `lists::differ` keeps. Assumes nothing.
-use Prim.Native.Nat.{◌-◌}
 use mathlib.Core.Path.{◌≡◌}
 use mathlib.Core.Bool.{true, not}
 use lib.Dec.{eqb}
@@ -9,6 +8,3 @@ use Rattle.lists.proofs.differ.Given as goal
 
 abbrev pub invariant-loop-index : goal.invariant-loop-index
 invariant-loop-index l = every (λ i. every (λ k. not (eqb (get_or l.numbers k 0) (get_or l.numbers i 0))) i) l.index ≡ true
-
-abbrev pub decreases-loop-index : goal.decreases-loop-index
-decreases-loop-index l = l.n - l.index

@@ -1,0 +1,34 @@
+-- What holds of each number below n, by its index, said of the list of the first n. Assumes nothing.
+use Prim.Native.Nat.{ℕ, zero, suc, ◌≤◌}
+use mathlib.Core.Path.{◌≡◌, refl, sym, ap, ◌∙◌}
+use mathlib.Core.Bool.{Bool, true, false, not, ◌&&◌, ◌||◌}
+use mathlib.Core.List.{List}
+use native.Mathlib.Numerals.{add-one}
+use native.Mathlib.Omega.{arith}
+use lib.ListN.{length, take, get_or}
+use Rattle.std.specs.List.{list_all, list_any}
+use Rattle.std.proofs.lemmas.List.{take_all}
+use Rattle.std.proofs.lemmas.List.Folds.{list_all_more, list_any_more}
+use Rattle.lists.specs.Below.{every}
+
+nor : (a b : Bool) → not (a || b) ≡ not a && not b
+nor true b = refl
+nor false b = refl
+
+module _ {A : Type 0} (test : A → Bool) (list : List A) (past : A) where
+  -- a test of each of the first n elements
+  pub every_take : (n : ℕ) → n ≤ length list → every (λ i. test (get_or list i past)) n ≡ list_all test (take n list)
+  unfolding every
+  every_take zero h = refl
+  every_take (suc n) h = rw (every_take n (omega arith)) (sym (rw add-one at (list_all_more test list n past (omega arith))))
+
+  -- where none of them passes
+  pub none_take : (n : ℕ) → n ≤ length list → every (λ i. not (test (get_or list i past))) n ≡ not (list_any test (take n list))
+  unfolding every
+  none_take zero h = refl
+  none_take (suc n) h =
+      rw (none_take n (omega arith)) (sym (ap not (rw add-one at (list_any_more test list n past (omega arith))) ∙ nor (list_any test (take n list)) (test (get_or list n past))))
+
+  -- and of each element of a list
+  pub every_whole : every (λ i. test (get_or list i past)) (length list) ≡ list_all test list
+  every_whole = every_take (length list) (omega arith) ∙ rw (take_all (length list) list (omega arith))
