@@ -7,7 +7,7 @@ use Rattle.std.specs.Prelude.{Some}
 use lib.Dec.{leb, ltb, eqb}
 use lib.ListN.{take, drop}
 use Rattle.columns.specs.Column.{byte_before, lead_of, column_of, digit_of, value_from, same_bytes, has_minus, number_in, widest}
-use Rattle.columns.specs.Fields.{total, columns_of, with_first, numbers_in, fitting}
+use Rattle.columns.specs.Fields.{columns_of, with_first, numbers_in, fitting}
 
 pub lead_of_suc : (minus : Bool) (w n : ℕ) → lead_of minus (suc w) n ≡ lead_of (minus && not (eqb n 0)) w (n / 10) ++ (byte_before minus n ∷ [])
 unfolding lead_of
@@ -26,14 +26,6 @@ same_bytes_cons x y xs ys = refl
 
 pub has_minus_cons : (byte : ℕ) (bytes : List ℕ) → has_minus (byte ∷ bytes) ≡ (eqb byte 45 || has_minus bytes)
 has_minus_cons byte bytes = refl
-
-pub total_nil : total [] ≡ 0
-unfolding total
-total_nil = refl
-
-pub total_cons : (w : ℕ) (ws : List ℕ) → total (w ∷ ws) ≡ w + total ws
-unfolding total
-total_cons w ws = refl
 
 pub columns_of_nil : (ns : List ℕ) → columns_of [] ns ≡ []
 unfolding columns_of

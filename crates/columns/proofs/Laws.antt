@@ -22,9 +22,9 @@ use Rattle.columns.proofs.Front.{space_number, space_negative, room_negative, tw
 use Rattle.columns.proofs.Minus.{no_minus, one_minus}
 use Rattle.columns.proofs.Shape.{positive_looks, negative_looks}
 pub use Rattle.columns.proofs.Clauses.{lead_of_suc, column_of_suc, value_from_cons, same_bytes_cons, has_minus_cons}
-pub use Rattle.columns.proofs.Clauses.{total_nil, total_cons, columns_of_nil, columns_of_cons, numbers_in_nil, numbers_in_cons, fitting_nil, fitting_cons}
+pub use Rattle.columns.proofs.Clauses.{columns_of_nil, columns_of_cons, numbers_in_nil, numbers_in_cons, fitting_nil, fitting_cons}
 pub use Rattle.columns.proofs.Fill.{length_column}
-pub use Rattle.columns.proofs.Lists.{fits_more, fits_first, fitting_length, length_columns, columns_append, total_append}
+pub use Rattle.columns.proofs.Lists.{fits_more, fits_first, fitting_length, length_columns, columns_append, total_sum}
 
 -- ---- one column
 
@@ -189,12 +189,12 @@ parts (Some n) (Some ns) numbers e = record { n = n; ns = ns; number = refl; oth
 pub fields_written_again : FieldsWrittenAgain
 fields_written_again [] bytes numbers l e =
     let z : numbers ≡ [] = cc (numbers_in_nil bytes) in
-    rw (z, columns_of_nil, total_nil) (refl, fitting_nil)
+    rw (z, columns_of_nil) (refl, fitting_nil)
 fields_written_again (w ∷ ws) bytes numbers l e =
     let p = parts (number_in (take w bytes)) (numbers_in ws (drop w bytes)) numbers (sym (numbers_in_cons w ws bytes) ∙ e) in
-    let k : w + total ws ≤ length bytes = rw total_cons at l in
+    let k : w + total ws ≤ length bytes = l in
     let q : length (take w bytes) ≡ w = length-take-le w bytes (omega arith) in
     let a = number_written_again (take w bytes) p.n p.number in
     let i = fields_written_again ws (drop w bytes) p.ns (rw length-drop (omega arith)) p.others in
     let b = rw q at a in
-    rw (p.all, columns_of_cons, total_cons, take-add, b.0, i.0) (refl, fits_more w p.n ws p.ns b.1 b.2 b.3 i.1)
+    rw (p.all, columns_of_cons, take-add, b.0, i.0) (refl, fits_more w p.n ws p.ns b.1 b.2 b.3 i.1)

@@ -7,6 +7,8 @@ use native.Mathlib.Omega.{arith}
 use borrow.Author.Tests.{leb-true, ltb-true, le-leb, lt-ltb}
 use lib.Dec.{leb, ltb}
 use lib.ListN.{length, length-append}
+use Rattle.std.specs.Prelude.{sum}
+use Rattle.std.proofs.lemmas.List.Sums.{sum_by-cons}
 use Rattle.columns.specs.Column.{widest}
 use Rattle.columns.specs.Fields.{total, columns_of, fitting}
 use Rattle.columns.proofs.Clauses.{fitting_cons}
@@ -33,7 +35,7 @@ fitting_length (w ∷ ws) [] t = let z : false ≡ true = t in cc
 fitting_length (w ∷ ws) (n ∷ ns) t = ap suc (fitting_length ws ns (fits_first w n ws ns t).3)
 
 pub length_columns : (ws ns : List ℕ) → length ws ≡ length ns → length (columns_of ws ns) ≡ total ws
-unfolding columns_of total
+unfolding columns_of
 length_columns [] ns l = refl
 length_columns (w ∷ ws) [] l = absurd (omega arith)
 length_columns (w ∷ ws) (n ∷ ns) l = rw (length-append, length_column false w n, length_columns ws ns (omega arith))
@@ -45,7 +47,7 @@ columns_append [] (n ∷ ns) vs ms l = absurd (omega arith)
 columns_append (w ∷ ws) [] vs ms l = absurd (omega arith)
 columns_append (w ∷ ws) (n ∷ ns) vs ms l = rw (columns_append ws ns vs ms (omega arith), append_assoc)
 
-pub total_append : (ws vs : List ℕ) → total (ws ++ vs) ≡ total ws + total vs
-unfolding total
-total_append [] vs = omega arith
-total_append (w ∷ ws) vs = rw (total_append ws vs) (omega arith)
+-- the total is std's sum
+pub total_sum : (ws : List ℕ) → total ws ≡ sum ws
+total_sum [] = refl
+total_sum (w ∷ ws) = ap (λ (n : ℕ). w + n) (total_sum ws) ∙ sym (sum_by-cons (λ (x : ℕ). x) w ws)

@@ -1,15 +1,12 @@
 -- Whether a minus stands in what is written of a value. Assumes nothing.
 use Prim.Native.Nat.{ℕ, zero, suc, ◌+◌, ◌/◌, ◌%◌, ◌^◌, ◌<◌}
-use mathlib.Core.Path.{◌≡◌, refl, sym, ap, ◌∙◌}
-use mathlib.Core.Bool.{Bool, true, false, ◌||◌, or-false, or-true, or_assoc}
+use mathlib.Core.Path.{◌≡◌, refl, ap, ◌∙◌}
+use mathlib.Core.Bool.{Bool, true, false, ◌||◌, or-false, or-true}
 use mathlib.Core.List.{List, [], ◌∷◌, ◌++◌}
 use native.Mathlib.Omega.{arith}
-use native.Mathlib.Numerals.{add-one}
-use borrow.Author.Tests.{eq-eqb, ne_eqb}
+use borrow.Author.Tests.{ne_eqb}
 use lib.Dec.{eqb, eqb-suc-zero}
 use Rattle.std.proofs.lemmas.List.Folds.{list_any-append}
-use lib.ListN.{length, get_or, drop}
-use lib.Seq.{drop-cons, drop-length}
 use Rattle.columns.specs.Column.{byte_before, lead_of, column_of, has_minus}
 use Rattle.columns.proofs.Values.{tenth}
 

@@ -1,6 +1,6 @@
 -- A number in a column of fixed width: right-justified, at least one leading space, no leading zeros; a minus stands directly before the
 -- digits, and never before 0. A column is given by what is written, and is read as a number if it is that number's. Assumes nothing.
-use Rattle.std.specs.Prelude.{ℕ, zero, suc, ◌+◌, ◌-◌, ◌*◌, ◌/◌, ◌%◌, Bool, true, false, cond, not, ◌&&◌, ◌||◌, List, [], ◌∷◌, ◌++◌, ℤ, pos, neg_ℤ, nat_abs, length, get_or, leb, ltb, eqb, Option, None, Some}
+use Rattle.std.specs.Prelude.{ℕ, zero, suc, ◌+◌, ◌-◌, ◌*◌, ◌/◌, ◌%◌, Bool, true, false, cond, not, ◌&&◌, List, [], ◌∷◌, ◌++◌, ℤ, pos, neg_ℤ, nat_abs, length, get_or, leb, ltb, eqb, Option, None, Some}
 use Rattle.std.specs.List.{list_any}
 use Rattle.std.specs.Str.{bytes_eq}
 use Rattle.values.specs.Values.{is_negative}

@@ -62,7 +62,11 @@ fn digit_of(byte: u8) -> u64
     ensures value { result ≡ digit_of byte }
     ensures upper_bound { result ≤ 9 }
 {
-    if byte.is_ascii_digit() { u64::from(byte - b'0') } else { 0 }
+    if byte.is_ascii_digit() {
+        u64::from(byte - b'0')
+    } else {
+        0
+    }
 }
 
 // The number that a column's digits make, whatever else stands there.

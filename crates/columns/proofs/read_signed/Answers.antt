@@ -2,9 +2,7 @@
 use mathlib.Core.Path.{refl, ap, ◌∙◌}
 use mathlib.Core.Bool.{true, false}
 use borrow.Author.Tests.{eq-eqb, ne_eqb}
-use lib.Dec.{eqb}
 use Rattle.std.specs.Prelude.{Some}
-use Rattle.columns.specs.Column.{signed_if, signed_in}
 use Rattle.columns.proofs.Judged.{signed_refused, value_fits, signed_judged}
 use Rattle.values.proofs.Signs.{stays, negation_fits, negation_read}
 use Rattle.columns.proofs.read_signed.Goals as goal

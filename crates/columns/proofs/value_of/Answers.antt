@@ -1,7 +1,6 @@
 -- `columns::value_of` meets its contract: the number so far, with the bytes from the index on, makes the whole number.
-use mathlib.Core.Path.{◌≡◌, sym, ◌∙◌}
+use mathlib.Core.Path.{sym, ◌∙◌}
 use native.Mathlib.Omega.{arith}
-use lib.ListN.{length}
 use Rattle.columns.proofs.Values.{value_step, value_end, tens, most}
 use Rattle.columns.proofs.value_of.Goals as goal
 
