@@ -3,30 +3,22 @@ use Prim.Native.Nat.{ℕ, ◌+◌, ◌-◌, ◌≤◌}
 use mathlib.Core.Path.{◌≡◌, sym}
 use mathlib.Core.Bool.{true, false, and-false}
 use mathlib.Core.List.{List, [], ◌∷◌}
-use Rattle.std.specs.Prelude.{None, Some}
+use Rattle.std.specs.Prelude.{Option, None, Some}
 use native.Mathlib.Nat.{add-sub_cancel_left}
 use native.Mathlib.Omega.{arith}
 use borrow.Author.Tests.{eq-eqb, ne_eqb, eqb-true}
 use lib.Dec.{eqb}
 use lib.ListN.{length, get_or, take, drop, length-drop}
 use lib.Seq.{take_all, drop-drop}
-use Rattle.columns.specs.declared.Number.{Number}
 use Rattle.columns.specs.Column.{number_in}
 use Rattle.columns.specs.Fields.{total, with_first, numbers_in}
-use Rattle.columns.proofs.Laws.{numbers_in_nil, numbers_in_cons, total_nil, total_cons}
+use Rattle.columns.proofs.Laws.{numbers_in_nil, numbers_in_cons}
 use Rattle.lists.proofs.Below.{both}
 use Rattle.lines.specs.Lines.{is_framed, line_in}
 
 -- a part from a place up to the end
 pub tail_part : (bytes : List ℕ) (at : ℕ) → take (length bytes - at) (drop at bytes) ≡ drop at bytes
 tail_part bytes at = take_all (length bytes - at) (drop at bytes) (omega (arith, length-drop at bytes))
-
--- how many bytes two columns take, and three
-pub total_two : (a b : ℕ) → total (a ∷ b ∷ []) ≡ a + b
-total_two a b = rw (total_cons, total_cons, total_nil) (omega arith)
-
-pub total_three : (a b c : ℕ) → total (a ∷ b ∷ c ∷ []) ≡ a + b + c
-total_three a b c = rw (total_cons, total_two) (omega arith)
 
 -- ---- the frame
 
@@ -59,21 +51,21 @@ module _ (letter size : ℕ) (widths line : List ℕ) (sized : total widths ≡ 
 -- ---- the columns
 
 -- what stands in the first column, and the numbers of the others
-pub first_column : (bytes : List ℕ) (w : ℕ) (ws : List ℕ) (n : Number) → n ≡ number_in (take w bytes)
+pub first_column : (bytes : List ℕ) (w : ℕ) (ws : List ℕ) (n : Option ℕ) → n ≡ number_in (take w bytes)
     → with_first n (numbers_in ws (drop w bytes)) ≡ numbers_in (w ∷ ws) bytes
 first_column bytes w ws n e = rw (numbers_in_cons, e)
 
 -- the same of a column from a place on
-pub column : (line : List ℕ) (at w : ℕ) (ws : List ℕ) (n : Number) → n ≡ number_in (take w (drop at line))
+pub column : (line : List ℕ) (at w : ℕ) (ws : List ℕ) (n : Option ℕ) → n ≡ number_in (take w (drop at line))
     → numbers_in (w ∷ ws) (drop at line) ≡ with_first n (numbers_in ws (drop (at + w) line))
 column line at w ws n e = rw (numbers_in_cons, e, drop-drop)
 
 -- the last column
-pub last_column : (line : List ℕ) (at w : ℕ) (n : Number) → n ≡ number_in (take w (drop at line))
+pub last_column : (line : List ℕ) (at w : ℕ) (n : Option ℕ) → n ≡ number_in (take w (drop at line))
     → numbers_in (w ∷ []) (drop at line) ≡ with_first n (Some [])
 last_column line at w n e = rw (numbers_in_cons, numbers_in_nil, e)
 
 -- the last column, as the part between two places
-pub last_part : (line : List ℕ) (at w : ℕ) (n : Number) → n ≡ number_in (take (at + w - at) (drop at line))
+pub last_part : (line : List ℕ) (at w : ℕ) (n : Option ℕ) → n ≡ number_in (take (at + w - at) (drop at line))
     → with_first n (Some []) ≡ numbers_in (w ∷ []) (drop at line)
 last_part line at w n e = sym (last_column line at w n (rw add-sub_cancel_left at e))

@@ -1,10 +1,6 @@
 -- A line: a letter, numbers in columns of given widths, and LF. Assumes nothing.
 use Rattle.std.specs.Prelude.{ℕ, ◌+◌, Bool, cond, ◌&&◌, List, [], ◌∷◌, ◌++◌, length, get_or, drop, eqb, Option, None, Some}
 use Rattle.columns.specs.Fields.{total, columns_of, numbers_in}
-use Rattle.lines.specs.declared.Two.{Two}
-use Rattle.lines.specs.declared.Two.TheVariants.{Are as TwoAre, Bad as TwoBad}
-use Rattle.lines.specs.declared.Three.{Three}
-use Rattle.lines.specs.declared.Three.TheVariants.{Are as ThreeAre, Bad as ThreeBad}
 
 -- what is written: the letter, the numbers in their columns, and LF
 abbrev pub line_of : ℕ → List ℕ → List ℕ → List ℕ
@@ -17,13 +13,3 @@ is_framed letter size line = eqb (length line) (size + 2) && eqb (get_or line 0 
 -- what is read: the numbers of a line that has this letter, columns of these widths, LF, and nothing else
 unfoldable pub line_in : ℕ → List ℕ → List ℕ → Option (List ℕ)
 line_in letter widths line = cond (is_framed letter (total widths) line) (numbers_in widths (drop 1 line)) None
-
--- two numbers, as the code hands them on
-abbrev pub two_of : Two → Option (List ℕ)
-two_of (TwoAre first second) = Some (first ∷ second ∷ [])
-two_of TwoBad = None
-
--- three numbers, as the code hands them on
-abbrev pub three_of : Three → Option (List ℕ)
-three_of (ThreeAre first second third) = Some (first ∷ second ∷ third ∷ [])
-three_of ThreeBad = None
