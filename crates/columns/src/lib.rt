@@ -3,7 +3,9 @@
 
 ghost use Rattle.std.specs.Prelude.{◌≡◌, true, false, not, ◌&&◌, [], ◌∷◌, ◌+◌, ◌≤◌, ◌<◌, leb, eqb, length, get_or};
 ghost use Rattle.columns.specs.Column.{byte_before, column_of, signed_column_of, digit_of, value_from, same_bytes, is_column, number_if, has_minus, number_in, signed_in, space_byte, widest};
-ghost use Rattle.lists.specs.Place.{Put};
+ghost use Rattle.lists.specs.Pages.{Added};
+
+use lists::Page;
 
 // The sign directly before the digits of a value below 0.
 pub const MINUS: u8 = b'-';
@@ -130,4 +132,14 @@ pub fn read_signed(column: &[u8]) -> Option<i64>
         return None;
     }
     Some(-signed)
+}
+
+// Puts a number in a column on a page, after what was put before.
+pub fn put_number(page: &mut Page<u8>, width: usize, value: u64)
+    requires { page.old.end + width ≤ length page.old.space.now }
+    ensures { Added (column_of false width value) page.old page.new }
+{
+    let end = page.end + width;
+    write_number(&mut page.space[page.end..end], value);
+    page.end = end;
 }
