@@ -1,8 +1,7 @@
 -- The table of changeover days: the days on which clocks change, from 2024 to 2099, that of March and that of October in turn. Assumes nothing.
-use Rattle.std.specs.Prelude.{ℕ, ◌+◌, ◌/◌, ◌%◌, Bool, cond, ◌&&◌, List, [], ◌∷◌, ltb, eqb, length, get_or}
+use Rattle.std.specs.Prelude.{ℕ, ◌+◌, ◌/◌, ◌%◌, Bool, cond, ◌&&◌, List, [], ◌∷◌, ltb, eqb, length, get_or, Option}
+use Rattle.std.specs.Bool.{then_some}
 use Rattle.lists.specs.Below.{every}
-use Rattle.calendar.specs.declared.Day.{Day}
-use Rattle.calendar.specs.Dates.{day_if}
 use Rattle.calendar.specs.Quarters.{last_sunday}
 
 -- how many entries the table has: two for each year
@@ -38,8 +37,8 @@ abbrev pub changeover_day : ℕ → ℕ
 changeover_day place = get_or changeovers place 0
 
 -- the entry at a place as a caller gets it, none beyond the last
-unfoldable pub changeover_at : ℕ → Day
-changeover_at place = day_if (ltb place changeover_count) (changeover_day place)
+unfoldable pub changeover_at : ℕ → Option ℕ
+changeover_at place = then_some (ltb place changeover_count) (changeover_day place)
 
 -- the year of a place: two entries a year, from 2024 on
 abbrev pub changeover_year : ℕ → ℕ

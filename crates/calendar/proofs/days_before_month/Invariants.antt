@@ -4,8 +4,5 @@ use mathlib.Core.Path.{◌≡◌}
 use Rattle.calendar.specs.Civil.{days_before_month}
 use Rattle.calendar.proofs.days_before_month.Given as goal
 
-abbrev pub invariant-loop-passed : goal.invariant-loop-passed
-invariant-loop-passed l = (l.passed ≤ l.month - 1) × (l.before ≡ days_before_month l.year l.passed)
-
-abbrev pub decreases-loop-passed : goal.decreases-loop-passed
-decreases-loop-passed l = l.month - l.passed
+abbrev pub invariant-loop-earlier : goal.invariant-loop-earlier
+invariant-loop-earlier l = (l.earlier - 1 ≤ l.month - 1) × (l.before ≡ days_before_month l.year (l.earlier - 1))

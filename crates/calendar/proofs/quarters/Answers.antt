@@ -66,7 +66,7 @@ returns-then-day-october c =
     long _ _ _ (omega arith) (of_march (goal.at.returns-then-day-october c).After-changeover_day-march)
     (of_october (goal.at.returns-then-day-october c).After-changeover_day-october) c.if-day-march.false c.if-day-october.true
 
-pub returns : goal.returns
-returns c =
-    plain _ _ _ (omega arith) (of_march (goal.at.returns c).After-changeover_day-march) (of_october (goal.at.returns c).After-changeover_day-october)
+pub returns-else-day-october : goal.returns-else-day-october
+returns-else-day-october c =
+    plain _ _ _ (omega arith) (of_march (goal.at.returns-else-day-october c).After-changeover_day-march) (of_october (goal.at.returns-else-day-october c).After-changeover_day-october)
     c.if-day-march.false c.if-day-october.false
