@@ -1,11 +1,11 @@
 -- What holds of each number below n, by its index, said of the list of the first n. Assumes nothing.
-use Prim.Native.Nat.{ℕ, zero, suc, ◌≤◌}
+use Prim.Native.Nat.{ℕ, zero, suc, ◌+◌, ◌≤◌, ◌<◌}
 use mathlib.Core.Path.{◌≡◌, refl, sym, ap, ◌∙◌}
 use mathlib.Core.Bool.{Bool, true, false, not, ◌&&◌, ◌||◌}
-use mathlib.Core.List.{List}
+use mathlib.Core.List.{List, [], ◌∷◌}
 use native.Mathlib.Numerals.{add-one}
 use native.Mathlib.Omega.{arith}
-use lib.ListN.{length, take, get_or}
+use lib.ListN.{length, take, drop, get_or, length-drop}
 use Rattle.std.specs.List.{list_all, list_any}
 use Rattle.std.proofs.lemmas.List.{take_all}
 use Rattle.std.proofs.lemmas.List.Folds.{list_all_more, list_any_more}
@@ -32,3 +32,20 @@ module _ {A : Type 0} (test : A → Bool) (list : List A) (past : A) where
   -- and of each element of a list
   pub every_whole : every (λ i. test (get_or list i past)) (length list) ≡ list_all test list
   every_whole = every_take (length list) (omega arith) ∙ rw (take_all (length list) list (omega arith))
+
+-- where the first n elements of a list have been taken: one more is left there, or none is
+pub record Taken {A : Type 0} (list rest : List A) (n : ℕ) (x past : A) : Type 0 where
+  pub within : n < length list
+  pub here : x ≡ get_or list n past
+  pub left : rest ≡ drop (n + 1) list
+
+pub taken_one : {A : Type 0} (list rest : List A) (n : ℕ) (x past : A) → x ∷ rest ≡ drop n list → Taken list rest n x past
+taken_one [] rest zero x past e = cc
+taken_one [] rest (suc n) x past e = cc
+taken_one (y ∷ ys) rest zero x past e = record { within = omega arith; here = cc; left = cc }
+taken_one (y ∷ ys) rest (suc n) x past e =
+    let t = taken_one ys rest n x past e in
+    record { within = omega (arith, t.within); here = t.here; left = rw (add-one (suc n)) (rw (add-one n) at t.left) }
+
+pub taken_all : {A : Type 0} (list rest : List A) (n : ℕ) → rest ≡ drop n list → length rest ≡ 0 → length list ≤ n
+taken_all list rest n e z = omega (arith, simp length-drop at (ap length e))

@@ -1,22 +1,26 @@
 -- `registration::weighted_sum` meets its contract: the sum so far and that of the digits left make up the whole sum. Assumes nothing.
-use Rattle.registration.proofs.Digits.{digit_bound, weighted_end, weighted_turn}
 use native.Mathlib.Omega.{arith}
+use Prim.Native.Nat.{◌+◌, ◌-◌}
+use mathlib.Core.Path.{◌≡◌}
+use Rattle.registration.proofs.Digits.{digit_bound, weighted_end, weighted_turn}
 use Rattle.registration.proofs.weighted_sum.Goals as goal
 
 pub overflow_mul-sum : goal.overflow_mul-sum
-overflow_mul-sum c = omega (arith, digit_bound _ c.loop-digits.rest c.loop-digits.invariant.1)
+overflow_mul-sum c = omega (arith, digit_bound _ c.loop.rest c.loop.invariant.most)
 
 pub overflow_add-sum : goal.overflow_add-sum
-overflow_add-sum c = omega (arith, digit_bound _ c.loop-digits.rest c.loop-digits.invariant.1)
+overflow_add-sum c = omega (arith, digit_bound _ c.loop.rest c.loop.invariant.most)
 
-pub loop-digits-preserved : goal.loop-digits-preserved
-loop-digits-preserved c = (
-  omega arith,
-  omega arith,
-  omega (arith, digit_bound _ c.loop-digits.rest c.loop-digits.invariant.1),
-  weighted_turn _ _ _ _ _ c.loop-digits-test.true
-      c.loop-digits.invariant.3,
-)
+pub loop-preserved : goal.loop-preserved
+loop-preserved c =
+    let l = c.loop in
+    let left : 17 - (l.counter + 1) ≡ 17 - l.counter - 1 = omega arith in
+    record {
+      least = omega arith;
+      most = omega arith;
+      bound = omega (arith, digit_bound _ l.rest l.invariant.most);
+      sum = rw left (weighted_turn (17 - l.counter) _ _ _ _ (omega arith) l.invariant.sum);
+    }
 
 pub returns : goal.returns
-returns c = (weighted_end _ _ _ _ _ c.loop-digits-test.false c.loop-digits.invariant.3, omega arith)
+returns c = (weighted_end (17 - c.loop.counter) _ _ _ _ (omega arith) c.loop.invariant.sum, omega arith)
