@@ -4,6 +4,7 @@ use mathlib.Core.Path.{◌≡◌, sym, ap, subst, ◌∙◌}
 use native.Mathlib.Omega.{arith}
 use lib.Dec.{leb, eqb}
 use borrow.Author.Tests.{leb-true, leb-false, eqb-true, eqb-false, eq-eqb}
+use Rattle.std.specs.Prelude.{Some}
 use Rattle.lists.proofs.Cases.{by_test}
 use Rattle.calendar.specs.Dates.{last_day}
 use Rattle.calendar.specs.Quarters.{quarters_of}
@@ -80,7 +81,7 @@ twice_differ quarter other h l m e =
     let same : minutes_of 100 quarter ≡ minutes_of 100 other = ap (λ (s : Start). s.minutes) e in
     let first = long_a quarter (omega (arith, long_early quarter l, long_late other m)) l in
     let second = long_b other m (omega (arith, long_early quarter l, long_late other m)) in
-    let letters : A ≡ B = ap (λ (s : Start). s.letter) (sym first ∙ (e ∙ second)) in
+    let letters : Some A ≡ Some B = ap (λ (s : Start). s.letter) (sym first ∙ (e ∙ second)) in
     let z : ◌≡◌ {A = ℕ} 0 1 = cc in
     omega arith
 

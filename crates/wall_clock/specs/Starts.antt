@@ -1,36 +1,35 @@
 -- What the clock on the wall shows when a quarter of a day begins, and which quarter of a day begins when it shows a time. Clocks go from 02:00 to 03:00 on the
 -- day with 92 quarters, and from 03:00 back to 02:00 on the day with 100. Times are minutes from midnight. Assumes nothing.
-use Rattle.std.specs.Prelude.{ℕ, zero, suc, ◌+◌, ◌-◌, ◌*◌, Bool, true, false, cond, ltb, eqb}
+use Rattle.std.specs.Prelude.{ℕ, zero, suc, ◌+◌, ◌-◌, ◌*◌, Bool, cond, ltb, eqb, Option, Some, None}
+use Rattle.std.specs.Bool.{then_some}
 use Rattle.calendar.specs.Quarters.{quarters_of}
 use Rattle.wall_clock.specs.declared.Letter.{Letter}
-use Rattle.wall_clock.specs.declared.Letter.TheVariants.{Without, A, B}
+use Rattle.wall_clock.specs.declared.Letter.TheVariants.{A, B}
 use Rattle.wall_clock.specs.declared.Start.{Start}
-use Rattle.wall_clock.specs.declared.Quarter.{Quarter}
-use Rattle.wall_clock.specs.declared.Quarter.TheVariants.{Is, Missing}
 
 -- how many minutes of the day have passed when a quarter begins
 abbrev pub passed_at : (quarter : ℕ) → ℕ
 passed_at quarter = 15 * (quarter - 1)
 
 -- a start with its letter: A for the first of a doubled hour, B for the second, and none for every other
-abbrev pub start_with : Letter → (minutes : ℕ) → Start
+abbrev pub start_with : Option Letter → (minutes : ℕ) → Start
 start_with letter minutes = record { minutes = minutes; letter = letter }
 
 -- on a day on which no clock changes it shows what has passed
 abbrev pub ordinary_start : (passed : ℕ) → Start
-ordinary_start passed = start_with Without passed
+ordinary_start passed = start_with None passed
 
 -- on the day with 92 quarters it goes forward an hour when 02:00 would come: 02:00 to 02:45 are missing
 abbrev pub short_start : (passed : ℕ) → Start
-short_start passed = cond (ltb passed 120) (start_with Without passed) (start_with Without (passed + 60))
+short_start passed = cond (ltb passed 120) (start_with None passed) (start_with None (passed + 60))
 
 -- on the day with 100 quarters it goes back an hour when 03:00 would come for the first time: 02:00 to 02:45 come twice
 abbrev pub long_start : (passed : ℕ) → Start
 long_start passed =
-    cond (ltb passed 120) (start_with Without passed)
-    (cond (ltb passed 180) (start_with A passed)
-    (cond (ltb passed 240) (start_with B (passed - 60))
-    (start_with Without (passed - 60))))
+    cond (ltb passed 120) (start_with None passed)
+    (cond (ltb passed 180) (start_with (Some A) passed)
+    (cond (ltb passed 240) (start_with (Some B) (passed - 60))
+    (start_with None (passed - 60))))
 
 -- the start after so many minutes, by how many quarters the day has
 unfoldable pub start_after : (quarters passed : ℕ) → Start
@@ -41,25 +40,20 @@ start_after quarters passed =
 abbrev pub quarter_start : (day quarter : ℕ) → Start
 quarter_start day quarter = start_after (quarters_of day) (passed_at quarter)
 
--- a quarter, if a test holds
-abbrev pub quarter_if : Bool → ℕ → Quarter
-quarter_if true quarter = Is quarter
-quarter_if false quarter = Missing
-
 -- the first of two quarters that is there
-abbrev pub or_else : Quarter → Quarter → Quarter
-or_else (Is quarter) other = Is quarter
-or_else Missing other = other
+abbrev pub or_else : Option ℕ → Option ℕ → Option ℕ
+or_else (Some quarter) other = Some quarter
+or_else None other = other
 
 -- the first of the quarters up to n that passes a test
-unfoldable pub first_up_to : (ℕ → Bool) → (n : ℕ) → Quarter
-first_up_to test zero = Missing
-first_up_to test (suc n) = or_else (first_up_to test n) (quarter_if (test (suc n)) (suc n))
+unfoldable pub first_up_to : (ℕ → Bool) → (n : ℕ) → Option ℕ
+first_up_to test zero = None
+first_up_to test (suc n) = or_else (first_up_to test n) (then_some (test (suc n)) (suc n))
 
 -- the first quarter that starts when the clock shows so many minutes, by how many quarters the day has
-abbrev pub first_in : (quarters minutes : ℕ) → Quarter
+abbrev pub first_in : (quarters minutes : ℕ) → Option ℕ
 first_in quarters minutes = first_up_to (λ quarter. eqb (start_after quarters (passed_at quarter)).minutes minutes) quarters
 
 -- the first quarter of a day that starts when the clock shows so many minutes, whatever its letter
-unfoldable pub first_at : (day minutes : ℕ) → Quarter
+unfoldable pub first_at : (day minutes : ℕ) → Option ℕ
 first_at day minutes = first_in (quarters_of day) minutes

@@ -5,26 +5,18 @@ ghost use Rattle.std.specs.Prelude.{◌≡◌, true, ◌%◌, ◌≤◌, ◌<◌
 ghost use Rattle.calendar.specs.Quarters.{quarter_exists};
 ghost use Rattle.wall_clock.specs.Starts.{short_start, long_start, quarter_start, first_in, first_at};
 
-// The letter of a start: A for the first of a doubled hour, B for the second, none for every other.
+// The letter of a start in a doubled hour: A for its first time, B for its second.
 #[derive(Clone, Copy)]
 pub enum Letter {
-    Without,
     A,
     B,
 }
 
-// The wall-clock start of a quarter: minutes from midnight, and a letter.
+// The wall-clock start of a quarter: minutes from midnight, and the letter if it lies in a doubled hour.
 #[derive(Clone, Copy)]
 pub struct Start {
     pub minutes: u64,
-    pub letter: Letter,
-}
-
-// A quarter looked up by its start, or none where no quarter of the day starts then.
-#[derive(Clone, Copy)]
-pub enum Quarter {
-    Is(u64),
-    Missing,
+    pub letter: Option<Letter>,
 }
 
 // The minutes of a quarter and of an hour, the quarters of an hour, and the minutes that the clock shows in a day.
@@ -54,16 +46,13 @@ fn short_start(passed: u64) -> Start
     requires { passed ≤ 1500 }
     ensures { result ≡ short_start passed }
 {
-    if passed >= HOUR_BEGINS {
-        let minutes = passed + HOUR_MINUTES;
-        return Start {
-            minutes,
-            letter: Letter::Without,
-        };
-    }
+    let minutes = match passed {
+        0..HOUR_BEGINS => passed,
+        _ => passed + HOUR_MINUTES,
+    };
     Start {
-        minutes: passed,
-        letter: Letter::Without,
+        minutes,
+        letter: None,
     }
 }
 
@@ -71,100 +60,73 @@ fn short_start(passed: u64) -> Start
 fn long_start(passed: u64) -> Start
     ensures { result ≡ long_start passed }
 {
-    if passed < HOUR_BEGINS {
-        return Start {
-            minutes: passed,
-            letter: Letter::Without,
-        };
-    }
-    if passed < HOUR_ENDS {
-        return Start {
-            minutes: passed,
-            letter: Letter::A,
-        };
-    }
-    let minutes = passed - HOUR_MINUTES;
-    if passed < SECOND_ENDS {
-        return Start {
-            minutes,
-            letter: Letter::B,
-        };
-    }
-    Start {
-        minutes,
-        letter: Letter::Without,
-    }
+    let (minutes, letter) = match passed {
+        0..HOUR_BEGINS => (passed, None),
+        HOUR_BEGINS..HOUR_ENDS => (passed, Some(Letter::A)),
+        HOUR_ENDS..SECOND_ENDS => (passed - HOUR_MINUTES, Some(Letter::B)),
+        _ => (passed - HOUR_MINUTES, None),
+    };
+    Start { minutes, letter }
 }
 
 // The wall-clock start of a quarter that the day has.
+#[tactic(auto, using(calendar::proofs::Laws::exists_quarter), unfolding(crate::specs::Starts::start_after))]
 pub fn quarter_start(day: u64, quarter: u64) -> Start
     requires { quarter_exists day quarter ≡ true }
     ensures { result ≡ quarter_start day quarter }
 {
     let passed = QUARTER_MINUTES * (quarter - 1);
-    let quarters = calendar::quarters(day);
-    if quarters == SHORT_DAY {
-        return short_start(passed);
-    }
-    if quarters == LONG_DAY {
-        return long_start(passed);
-    }
-    Start {
-        minutes: passed,
-        letter: Letter::Without,
+    match calendar::quarters(day) {
+        SHORT_DAY => short_start(passed),
+        LONG_DAY => long_start(passed),
+        _ => Start {
+            minutes: passed,
+            letter: None,
+        },
     }
 }
 
 // The first quarter on the day with 92 quarters at a time at which one may start: none in the hour that is missing.
-fn short_first(minutes: u64) -> Quarter
+#[tactic(auto, using(crate::proofs::Days::short_before_two, crate::proofs::Days::short_missing, crate::proofs::Days::short_from_three))]
+fn short_first(minutes: u64) -> Option<u64>
     requires { (minutes % 15 ≡ 0) × (minutes < 1440) }
     ensures { result ≡ first_in 92 minutes }
 {
     let ordinary = minutes / QUARTER_MINUTES + 1;
-    if minutes < HOUR_BEGINS {
-        return Quarter::Is(ordinary);
+    match minutes {
+        0..HOUR_BEGINS => Some(ordinary),
+        HOUR_BEGINS..HOUR_ENDS => None,
+        _ => Some(ordinary - HOUR_QUARTERS),
     }
-    if minutes >= HOUR_ENDS {
-        let quarter = ordinary - HOUR_QUARTERS;
-        return Quarter::Is(quarter);
-    }
-    Quarter::Missing
 }
 
 // The first quarter on the day with 100 quarters at a time at which one may start: the first of the hour that comes twice.
-fn long_first(minutes: u64) -> Quarter
+#[tactic(auto, using(crate::proofs::Days::long_before_three, crate::proofs::Days::long_from_three))]
+fn long_first(minutes: u64) -> u64
     requires { (minutes % 15 ≡ 0) × (minutes < 1440) }
-    ensures { result ≡ first_in 100 minutes }
+    ensures { Some result ≡ first_in 100 minutes }
 {
     let ordinary = minutes / QUARTER_MINUTES + 1;
     if minutes < HOUR_ENDS {
-        return Quarter::Is(ordinary);
+        ordinary
+    } else {
+        ordinary + HOUR_QUARTERS
     }
-    let quarter = ordinary + HOUR_QUARTERS;
-    Quarter::Is(quarter)
 }
 
 // The first quarter of a day that starts when the clock shows so many minutes, whatever its letter: none in an hour that is missing, at a time at which no
 // quarter starts, and on a day outside the calendar.
-pub fn first_at(day: u64, minutes: u64) -> Quarter
+#[tactic(auto, using(crate::proofs::Days::none_between, crate::proofs::Days::none_after, crate::proofs::Days::none_outside, crate::proofs::Days::ordinary_at, crate::proofs::Days::first_by))]
+pub fn first_at(day: u64, minutes: u64) -> Option<u64>
     ensures { result ≡ first_at day minutes }
 {
-    if minutes % QUARTER_MINUTES != 0 {
-        return Quarter::Missing;
+    if minutes % QUARTER_MINUTES != 0 || minutes >= DAY_MINUTES {
+        return None;
     }
-    if minutes >= DAY_MINUTES {
-        return Quarter::Missing;
+    match calendar::quarters(day) {
+        0 => None,
+        SHORT_DAY => short_first(minutes),
+        LONG_DAY => Some(long_first(minutes)),
+        _ => Some(minutes / QUARTER_MINUTES + 1),
     }
-    if day > calendar::LAST_DAY {
-        return Quarter::Missing;
-    }
-    let quarters = calendar::quarters(day);
-    if quarters == SHORT_DAY {
-        return short_first(minutes);
-    }
-    if quarters == LONG_DAY {
-        return long_first(minutes);
-    }
-    let ordinary = minutes / QUARTER_MINUTES + 1;
-    Quarter::Is(ordinary)
 }
