@@ -2,6 +2,7 @@
 -- day with 92 quarters, and from 03:00 back to 02:00 on the day with 100. Times are minutes from midnight. Assumes nothing.
 use Rattle.std.specs.Prelude.{ℕ, zero, suc, ◌+◌, ◌-◌, ◌*◌, Bool, cond, ltb, eqb, Option, Some, None}
 use Rattle.std.specs.Bool.{then_some}
+use Rattle.std.specs.Option.{option_or}
 use Rattle.calendar.specs.Quarters.{quarters_of}
 use Rattle.wall_clock.specs.declared.Letter.{Letter}
 use Rattle.wall_clock.specs.declared.Letter.TheVariants.{A, B}
@@ -40,15 +41,10 @@ start_after quarters passed =
 abbrev pub quarter_start : (day quarter : ℕ) → Start
 quarter_start day quarter = start_after (quarters_of day) (passed_at quarter)
 
--- the first of two quarters that is there
-abbrev pub or_else : Option ℕ → Option ℕ → Option ℕ
-or_else (Some quarter) other = Some quarter
-or_else None other = other
-
 -- the first of the quarters up to n that passes a test
 unfoldable pub first_up_to : (ℕ → Bool) → (n : ℕ) → Option ℕ
 first_up_to test zero = None
-first_up_to test (suc n) = or_else (first_up_to test n) (then_some (test (suc n)) (suc n))
+first_up_to test (suc n) = option_or (first_up_to test n) (then_some (test (suc n)) (suc n))
 
 -- the first quarter that starts when the clock shows so many minutes, by how many quarters the day has
 abbrev pub first_in : (quarters minutes : ℕ) → Option ℕ
