@@ -5,8 +5,10 @@ use mathlib.Core.Bool.{Bool, true, false, cond, not, ◌&&◌}
 use mathlib.Core.List.{List, [], ◌∷◌, ◌++◌}
 use native.Mathlib.Omega.{arith}
 use native.Mathlib.Numerals.{add-one}
-use borrow.Author.Tests.{eq-eqb, ne_eqb}
-use lib.Dec.{eqb, eqb-suc-zero}
+use borrow.Author.Tests.{ne_eqb, lt-ltb, le-ltb, ltb-true, ltb-false}
+use Rattle.std.specs.Prelude.{Option, None, Some, position}
+use Rattle.std.specs.List.{position_or_len}
+use lib.Dec.{eqb, ltb, eqb-suc-zero}
 use lib.ListN.{length, get_or, take, drop, length-append, length-drop}
 use lib.Seq.{drop-cons, drop-drop, drop-length, take-append_seam, drop-append_seam}
 use Rattle.columns.specs.Column.{byte_before, lead_of, column_of}
@@ -31,20 +33,6 @@ first_line_cons byte bytes = refl
 pub after_line_cons : (byte : ℕ) (bytes : List ℕ) → after_line (byte ∷ bytes) ≡ cond (eqb byte 10) bytes (after_line bytes)
 unfolding after_line
 after_line_cons byte bytes = refl
-
--- ---- a line from a place on
-
-module _ (text : List ℕ) (i : ℕ) where
-  -- the line from i on ends after an LF, goes on after any other byte, and ends at the text's end
-  pub ends_here : i < length text → get_or text i 0 ≡ 10 → i + length (first_line (drop i text)) ≡ i + 1
-  ends_here h e = rw (drop-cons text i 0 h, first_line_cons, eq-eqb (get_or text i 0) 10 e)
-
-  pub goes_on : i < length text → (get_or text i 0 ≡ 10 → ⊥) → i + length (first_line (drop i text)) ≡ i + 1 + length (first_line (drop (i + 1) text))
-  goes_on h e = rw (add-one, drop-cons text i 0 h, first_line_cons, ne_eqb (get_or text i 0) 10 e) (omega arith)
-
-  pub ends_last : i ≡ length text → i + length (first_line (drop i text)) ≡ i
-  unfolding first_line
-  ends_last e = rw (e, drop-length) (omega arith)
 
 -- bytes without an LF
 abbrev pub Plain : List ℕ → Type 0
@@ -108,6 +96,34 @@ first_part text = ap (take (length (first_line text))) (sym (lines_join text)) �
 
 pub after_part : (text : List ℕ) → drop (length (first_line text)) text ≡ after_line text
 after_part text = ap (drop (length (first_line text))) (sym (lines_join text)) ∙ drop-append_seam (first_line text) (after_line text)
+
+-- where the first line ends: after the first LF, if there is one, or at the text's end
+abbrev pub end_of : Option ℕ → ℕ → ℕ
+end_of None n = n
+end_of (Some place) n = place + 1
+
+-- by the bytes before the first LF
+ends : (text : List ℕ) (n : ℕ) → n ≡ length text
+    → end_of (cond (ltb (position_or_len (λ byte. eqb byte 10) text) n) (Some (position_or_len (λ byte. eqb byte 10) text)) None) n ≡ length (first_line text)
+unfolding first_line
+ends [] n e = rw e
+ends (byte ∷ bytes) n e = by_test (eqb byte 10) (ends bytes (length bytes) refl)
+  where
+    place : ℕ
+    place = position_or_len (λ (b : ℕ). eqb b 10) bytes
+
+    by_place : (u : Bool) → ltb place (length bytes) ≡ u → end_of (cond u (Some place) None) (length bytes) ≡ length (first_line bytes)
+        → end_of (cond (ltb (1 + place) n) (Some (1 + place)) None) n ≡ suc (length (first_line bytes))
+    by_place true u i = rw (lt-ltb (1 + place) n (omega (arith, ltb-true place (length bytes) u))) (omega arith)
+    by_place false u i = rw (le-ltb (1 + place) n (omega (arith, ltb-false place (length bytes) u))) (omega arith)
+
+    by_test : (t : Bool) → end_of (cond (ltb place (length bytes)) (Some place) None) (length bytes) ≡ length (first_line bytes)
+        → end_of (cond (ltb (cond (not t) (1 + place) 0) n) (Some (cond (not t) (1 + place) 0)) None) n ≡ suc (length (cond t [] (first_line bytes)))
+    by_test true i = rw (lt-ltb 0 n (omega arith))
+    by_test false i = by_place (ltb place (length bytes)) refl i
+
+pub line_ends : (text : List ℕ) → end_of (position (λ byte. eqb byte 10) text) (length text) ≡ length (first_line text)
+line_ends text = ends text (length text) refl
 
 pub first_line_length : (text : List ℕ) → length (first_line text) ≤ length text
 first_line_length text = omega (arith, ap length (lines_join text), length-append (first_line text) (after_line text))

@@ -1,9 +1,11 @@
 -- A line by its parts: framed or refused by each test of the frame, and read column by column. Assumes nothing.
-use Prim.Native.Nat.{ℕ, ◌+◌, ◌-◌, ◌≤◌}
-use mathlib.Core.Path.{◌≡◌, sym}
+use Prim.Native.Nat.{ℕ, ◌+◌, ◌-◌, ◌≤◌, ◌<◌}
+use mathlib.Core.Path.{◌≡◌, refl, sym, ap, ◌∙◌}
 use mathlib.Core.Bool.{true, false, and-false}
-use mathlib.Core.List.{List, [], ◌∷◌}
+use mathlib.Core.List.{List, [], ◌∷◌, ◌++◌, append_assoc, append-nil}
 use Rattle.std.specs.Prelude.{Option, None, Some}
+use Rattle.std.specs.Option.{option_map}
+use Rattle.std.proofs.lemmas.List.{drop_more, drop_all}
 use native.Mathlib.Nat.{add-sub_cancel_left}
 use native.Mathlib.Omega.{arith}
 use borrow.Author.Tests.{eq-eqb, ne_eqb, eqb-true}
@@ -69,3 +71,34 @@ last_column line at w n e = rw (numbers_in_cons, numbers_in_nil, e)
 pub last_part : (line : List ℕ) (at w : ℕ) (n : Option ℕ) → n ≡ number_in (take (at + w - at) (drop at line))
     → with_first n (Some []) ≡ numbers_in (w ∷ []) (drop at line)
 last_part line at w n e = sym (last_column line at w n (rw add-sub_cancel_left at e))
+
+-- ---- the columns of a list of widths, one after the other
+
+-- the numbers read so far, before those that are still to be read
+abbrev pub after_these : List ℕ → Option (List ℕ) → Option (List ℕ)
+after_these ns = option_map (λ ms. ns ++ ms)
+
+module _ (ws rest : List ℕ) (i : ℕ) (h : i < length ws) where
+  pub next_width : total (drop i ws) ≡ get_or ws i 0 + total (drop (i + 1) ws)
+  next_width = ap total (drop_more ws i 0 h)
+
+  next_number : numbers_in (drop i ws) rest ≡ with_first (number_in (take (get_or ws i 0) rest)) (numbers_in (drop (i + 1) ws) (drop (get_or ws i 0) rest))
+  next_number = ap (λ (vs : List ℕ). numbers_in vs rest) (drop_more ws i 0 h) ∙ numbers_in_cons (get_or ws i 0) (drop (i + 1) ws) rest
+
+  pub next_refused : (ns : List ℕ) → number_in (take (get_or ws i 0) rest) ≡ None → after_these ns (numbers_in (drop i ws) rest) ≡ None
+  next_refused ns e = rw (next_number, e)
+
+  pub next_read : (ns : List ℕ) (n : ℕ) → number_in (take (get_or ws i 0) rest) ≡ Some n
+      → after_these ns (numbers_in (drop i ws) rest) ≡ after_these (ns ++ (n ∷ [])) (numbers_in (drop (i + 1) ws) (drop (get_or ws i 0) rest))
+  next_read ns n e = rw (next_number, e) (go (numbers_in (drop (i + 1) ws) (drop (get_or ws i 0) rest)))
+    where
+      go : (o : Option (List ℕ)) → after_these ns (with_first (Some n) o) ≡ after_these (ns ++ (n ∷ [])) o
+      go None = refl
+      go (Some ms) = rw append_assoc
+
+-- where every column has been read
+pub all_read : (ws rest ns : List ℕ) (i : ℕ) → length ws ≤ i → length ns ≡ length ws → after_these (take i ns) (numbers_in (drop i ws) rest) ≡ Some ns
+all_read ws rest ns i h e =
+    let n : length ns ≤ i = omega arith in
+    let none : drop i ws ≡ [] = drop_all i ws h in
+    rw (none, take_all i ns n, numbers_in_nil, append-nil)

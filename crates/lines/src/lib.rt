@@ -1,7 +1,7 @@
 // The lines of a text, and lines with a letter and numbers in columns, read and written.
 #![tactic(auto)]
 
-ghost use Rattle.std.specs.Prelude.{◌≡◌, [], ◌∷◌, ◌+◌, ◌≤◌, ◌<◌, ◌^◌, length, drop};
+ghost use Rattle.std.specs.Prelude.{◌≡◌, [], ◌∷◌, ◌+◌, ◌≤◌, ◌<◌, ◌^◌, eqb, length, position, sum};
 ghost use Rattle.columns.specs.Column.{widest};
 ghost use Rattle.columns.specs.Fields.{total, numbers_in};
 ghost use Rattle.lists.specs.Place.{Put};
@@ -24,7 +24,7 @@ impl<const N: usize> Format<N> {
         requires { total self.now.widths < 2 ^ 64 }
         ensures { result ≡ line_in self.now.letter self.now.widths line.now }
     {
-        let size = self.widths.iter().sum();
+        let size = total(&self.widths);
         if !is_framed(line, self.letter, size) {
             return None;
         }
@@ -32,12 +32,19 @@ impl<const N: usize> Format<N> {
     }
 }
 
+// The place of the first LF of a text.
+fn line_feed(text: &[u8]) -> Option<usize>
+    ensures { result ≡ position (λ byte. eqb byte 10) text.now }
+{
+    text.iter().position(|byte| *byte == LINE_FEED)
+}
+
 // The first line of a text, with its LF, and the text after it.
 pub fn split_line(text: &[u8]) -> (&[u8], &[u8])
     ensures line { result.0.now ≡ first_line text.now }
     ensures rest { result.1.now ≡ after_line text.now }
 {
-    let end = text.iter().position(|byte| *byte == LINE_FEED).map_or(text.len(), |place| place + 1);
+    let end = line_feed(text).map_or(text.len(), |place| place + 1);
     text.split_at(end)
 }
 
@@ -49,6 +56,14 @@ pub fn is_framed(line: &[u8], letter: u8, size: usize) -> bool
         && line.len() - 2 == size
         && line[0] == letter
         && line[size + 1] == LINE_FEED
+}
+
+// How many bytes columns of these widths take.
+fn total(widths: &[usize]) -> usize
+    requires { sum widths.now < 2 ^ 64 }
+    ensures { result ≡ sum widths.now }
+{
+    widths.iter().sum()
 }
 
 // The numbers in the columns of these widths at the front of the bytes.
