@@ -1,12 +1,17 @@
 -- From the last entry back: the first entry met that shows is what is shown, since the stamps rise; one that does not show does not matter. Assumes nothing.
-use Prim.Native.Nat.{ℕ, zero, suc, ◌+◌, ◌*◌, ◌-◌, ◌≤◌, ◌<◌}
+use Prim.Native.Nat.{ℕ, zero, suc, ◌+◌, ◌*◌, ◌≤◌, ◌<◌}
 use native.Mathlib.Omega.{arith}
-use native.Mathlib.Nat.{not-suc-le-zero}
-use native.Mathlib.Numerals.{sub-one}
 use mathlib.Core.Path.{◌≡◌, refl, ◌∙◌}
 use mathlib.Core.Bool.{true, false, ◌&&◌}
 use mathlib.Core.List.{List, [], ◌∷◌, ◌++◌, append-nil}
-use Rattle.std.specs.Prelude.{Some, None}
+use Rattle.std.specs.Prelude.{Some}
+use Rattle.std.specs.List.{find}
+use Rattle.std.specs.Option.{option_map}
+use Rattle.std.proofs.Common.{reverse, get_or, Bool, sym}
+use Rattle.std.proofs.lemmas.List.{reverse-reverse, reverse-append}
+use Rattle.lists.proofs.Those.{map_append}
+use Rattle.journal.specs.Found.{found}
+use Rattle.journal.specs.Stored.{entry_of, entries_in}
 use lib.Dec.{leb, eqb}
 use lib.ListN.{drop}
 use lib.Seq.{get_or-drop}
@@ -15,13 +20,14 @@ use Rattle.lists.proofs.Cases.{by_test}
 use Rattle.lists.proofs.Below.{and_left, and_right}
 use Rattle.journal.specs.Order.{Reading, weaker}
 use Rattle.journal.specs.Readings.{shown}
-use Rattle.journal.specs.Entries.{Entry, reading_of, readings_at}
+use Rattle.journal.specs.declared.Entry.{Entry}
+use Rattle.journal.specs.Entries.{reading_of, readings_at}
 use Rattle.journal.specs.Stored.{entry_at, entries}
 use Rattle.journal.specs.Damage.{Right}
 use Rattle.journal.proofs.InTime.{within_time}
 use Rattle.journal.proofs.ShownLaws.{Rising, shown_nil, shown_late}
 use Rattle.journal.proofs.Kept.{readings_append}
-use Rattle.journal.proofs.Entries.{right_rising}
+use Rattle.journal.proofs.RightEntries.{right_rising}
 
 -- ---- one entry more at the end
 entry_at_drop : (j : List ℕ) (i : ℕ) → entry_at (drop 3 j) i ≡ entry_at j (suc i)
@@ -39,10 +45,6 @@ entries_snoc (suc i) j = cc (entries_snoc i (drop 3 j), entry_at_drop j i)
 pub entries_none : (j : List ℕ) → entries 0 j ≡ []
 unfolding entries
 entries_none j = refl
-
-entries_back : (i : ℕ) (j : List ℕ) → 0 < i → entries i j ≡ entries (i - 1) j ++ (entry_at j (i - 1) ∷ [])
-entries_back zero j h = absurd (not-suc-le-zero h)
-entries_back (suc i) j h = rw sub-one (entries_snoc i j)
 
 -- ---- the last of rising readings
 rising_front : (lo : ℕ) (rs ss : List Reading) → Rising lo (rs ++ ss) → Rising lo rs
@@ -82,40 +84,28 @@ module _ (T p : ℕ) (es : List Entry) (e : Entry) where
       let here = last_here (and_left (eqb e.place p) (leb e.stamp T) h) in
       rw here (shown_last T 0 (readings_at es p) (reading_of e) (rw here at r) (leb-true e.stamp T (and_right (eqb e.place p) (leb e.stamp T) h)))
 
--- ---- a search from the last entry back, as it stands before entry number i
-module _ (j : List ℕ) (count p T : ℕ) where
-  -- none of the entries from number i on is shown
-  pub record Back (i : ℕ) : Type 0 where
-    pub within : i ≤ count
-    pub rising : Rising 0 (readings_at (entries i j) p)
-    pub same : shown T (readings_at (entries count j) p) ≡ shown T (readings_at (entries i j) p)
+-- ---- a search from the last entry back, among entries that stand as arrays of their numbers
+module _ (p T : ℕ) where
+  -- whether the entry of these numbers is for the place, with a stamp up to T
+  abbrev shows : List ℕ → Bool
+  shows numbers = eqb (get_or numbers 1 0) p && leb (get_or numbers 0 0) T
 
-  pub back_start : Right (entries count j) → Back count
-  back_start r =
-      record {
-        within = omega arith;
-        rising = right_rising r.points r.all.keptday r.all.last p 0 0 (omega arith) (entries count j) r.all.right;
-        same = refl;
-      }
+  -- the same search along the reversed list
+  found_ahead : (xs : List (List ℕ)) → Rising 0 (readings_at (entries_in (reverse xs)) p)
+      → found (option_map entry_of (find shows xs)) ≡ shown T (readings_at (entries_in (reverse xs)) p)
+  found_ahead [] h = sym (shown_nil T)
+  found_ahead (x ∷ xs) h =
+      let es = entries_in (reverse xs) in
+      let s : entries_in (reverse (x ∷ xs)) ≡ es ++ (entry_of x ∷ []) = rw (reverse-append (x ∷ []) xs) (map_append entry_of (reverse xs) (x ∷ [])) in
+      by_test (shows x)
+      (λ t. rw (s, t) (sym (last_shows T p es (entry_of x) (rw s at h) t)))
+      (λ f.
+      let front : Rising 0 (readings_at es p) = rising_front 0 (readings_at es p) (readings_at (entry_of x ∷ []) p) (rw (s, readings_append es (entry_of x ∷ []) p) at h) in
+      rw (s, f) (found_ahead xs front ∙ sym (last_misses T p es (entry_of x) f)))
 
-  pub back_miss : (i : ℕ) → 0 < i → Back i → eqb (entry_at j (i - 1)).place p && leb (entry_at j (i - 1)).stamp T ≡ false → Back (i - 1)
-  back_miss i h b t =
-      let e = entry_at j (i - 1) in
-      let es = entries (i - 1) j in
-      let s : entries i j ≡ es ++ (e ∷ []) = entries_back i j h in
-      record {
-        within = omega (arith, b.within);
-        rising = rising_front 0 (readings_at es p) (readings_at (e ∷ []) p) (rw (s, readings_append es (e ∷ []) p) at b.rising);
-        same = b.same ∙ rw s (last_misses T p es e t);
-      }
-
-  pub back_hit : (i : ℕ) → 0 < i → Back i → eqb (entry_at j (i - 1)).place p && leb (entry_at j (i - 1)).stamp T ≡ true
-      → shown T (readings_at (entries count j) p) ≡ Some (reading_of (entry_at j (i - 1)))
-  back_hit i h b t =
-      let s = entries_back i j h in
-      b.same ∙ rw s (last_shows T p (entries (i - 1) j) (entry_at j (i - 1)) (rw s at b.rising) t)
-
-  pub back_end : (i : ℕ) → i ≤ 0 → Back i → shown T (readings_at (entries count j) p) ≡ None
-  back_end i h b =
-      let z : i ≡ 0 = omega arith in
-      b.same ∙ rw (z, entries_none j) (shown_nil T)
+  pub found_back : (xs : List (List ℕ)) → Right (entries_in xs)
+      → found (option_map entry_of (find shows (reverse xs))) ≡ shown T (readings_at (entries_in xs) p)
+  found_back xs r =
+      let rising : Rising 0 (readings_at (entries_in xs) p) = right_rising r.points r.all.keptday r.all.last p 0 0 (omega arith) (entries_in xs) r.all.right in
+      let e : reverse (reverse xs) ≡ xs = reverse-reverse xs in
+      rw e at (found_ahead (reverse xs) (rw e rising))

@@ -5,7 +5,8 @@ use mathlib.Core.List.{List, [], ◌∷◌}
 use Rattle.std.specs.Prelude.{None, Some}
 use Rattle.journal.specs.Order.{Reading, weaker}
 use Rattle.journal.specs.Readings.{strongest, shown}
-use Rattle.journal.specs.Entries.{Entry, keep}
+use Rattle.journal.specs.declared.Entry.{Entry}
+use Rattle.journal.specs.Entries.{keep}
 
 -- a reading, by its stamp and its magnitude
 abbrev reading : (stamp magnitude : ℕ) → Reading

@@ -8,7 +8,8 @@ use lib.ListN.{length}
 use borrow.Author.Tests.{eqb-true, le-leb}
 use Rattle.lists.specs.Those.{those}
 use Rattle.journal.specs.Readings.{shown, has_stamp}
-use Rattle.journal.specs.Entries.{Entry, day_in, reading_of, readings_at, kept, keep}
+use Rattle.journal.specs.declared.Entry.{Entry}
+use Rattle.journal.specs.Entries.{day_in, reading_of, readings_at, kept, keep}
 use Rattle.lists.proofs.Cases.{by_test}
 use Rattle.lists.proofs.Those.{those_append, map_append, length_those}
 use Rattle.journal.proofs.ShownLaws.{Rising, stays, shown_stays}

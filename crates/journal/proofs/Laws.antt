@@ -18,7 +18,7 @@ use Rattle.lists.proofs.Those.{those_pass}
 use Rattle.journal.proofs.Strongest.{FindsStrongest, finds_strongest}
 use Rattle.journal.proofs.Literal.{Tells, shown_tells}
 use Rattle.journal.proofs.PlaceLaws.{point_in_place, day_in_place, quarter_in_place}
-use Rattle.journal.proofs.Entries.{right_rising}
+use Rattle.journal.proofs.RightEntries.{right_rising}
 use Rattle.journal.proofs.Kept.{shown_keep}
 use Rattle.journal.proofs.Stored.{entries_written, emptied_zero, later_stay}
 

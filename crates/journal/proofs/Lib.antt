@@ -5,7 +5,7 @@ pub mod ShownLaws
 pub mod Literal
 pub mod PlaceLaws
 pub mod Kept
-pub mod Entries
+pub mod RightEntries
 pub mod Stored
 pub mod Back
 pub mod Rules

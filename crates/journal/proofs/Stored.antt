@@ -1,16 +1,16 @@
 -- Entries in a journal: what is written is read again, and what stands behind it; what is read is written again; one more entry is three numbers placed;
--- and the entries from number i on are entry i and those from i + 1 on. Assumes nothing.
-use Prim.Native.Nat.{ℕ, zero, suc, ◌+◌, ◌*◌, ◌-◌, ◌≤◌, ◌<◌}
+-- and the entries as arrays of their three numbers. Assumes nothing.
+use Prim.Native.Nat.{ℕ, zero, suc, ◌+◌, ◌*◌, ◌-◌, ◌/◌, ◌≤◌, ◌<◌}
 use native.Mathlib.Omega.{arith}
 use native.Mathlib.Nat.{add-zero}
-use native.Mathlib.Numerals.{add-one, add-two}
 use mathlib.Core.Path.{◌≡◌, refl, ◌∙◌, ap}
 use mathlib.Core.List.{List, [], ◌∷◌, ◌++◌, append_assoc}
-use lib.ListN.{length, get_or, take, drop, set, replicate, take-append-drop, length-append, length-replicate, length-drop, get_or-append}
-use lib.Seq.{drop-drop, get_or-drop, get_or-take, get_or-append-add, length-take-le, sets-eq}
+use lib.ListN.{length, get_or, take, drop, replicate, take-append-drop, length-append, length-replicate, length-drop, get_or-append}
+use lib.Seq.{drop-drop, get_or-drop, get_or-take, get_or-append-add, length-take-le}
+use Rattle.std.specs.Simd.{first_chunks}
 use Rattle.lists.specs.Place.{placed}
-use Rattle.journal.specs.Entries.{Entry}
-use Rattle.journal.specs.Stored.{entry_at, entries, numbers, flat, emptied_numbers, written}
+use Rattle.journal.specs.declared.Entry.{Entry}
+use Rattle.journal.specs.Stored.{entry_at, entries, entries_in, numbers, flat, emptied_numbers, written}
 
 pub entries_flat : (es : List Entry) (j : List ℕ) → entries (length es) (flat es ++ j) ≡ es
 unfolding entries flat
@@ -117,12 +117,32 @@ put_append e n j h =
     let q : 3 * (suc n + 0) ≡ 3 * n + 3 = omega arith in
     rw (l, q, flat_append (entries n j) (e ∷ []), flat_entries n j (omega arith)) (append_assoc (take (3 * n) j) (numbers e) (drop (3 * n + 3) j))
 
--- three stores place the numbers of an entry
-pub put_stores : (at : ℕ) (e : Entry) (j : List ℕ) → at + 3 ≤ length j
-    → set (set (set j at e.stamp) (at + 1) e.place) (at + 2) e.stored ≡ placed at (numbers e) j
-unfolding placed
-put_stores at e j h =
-    rw (add-one, add-two) (sets-eq (numbers e) j at h ∙ append_assoc (take at j) (numbers e) (drop (at + 3) j))
+-- ---- entries that stand as arrays of their three numbers
+pub chunks_entries : (n : ℕ) (j : List ℕ) → 3 * n ≤ length j → entries_in (first_chunks 3 n j) ≡ entries n j
+unfolding entries
+chunks_entries zero j h = refl
+chunks_entries (suc n) [] h = absurd (omega arith)
+chunks_entries (suc n) (a ∷ []) h = absurd (omega arith)
+chunks_entries (suc n) (a ∷ b ∷ []) h = absurd (omega arith)
+chunks_entries (suc n) (a ∷ b ∷ c ∷ j) h = cc (chunks_entries n j (omega arith))
+
+-- entries of the front of a journal are those of the journal
+pub entries_take : (n : ℕ) (j : List ℕ) → 3 * n ≤ length j → entries n (take (3 * n) j) ≡ entries n j
+unfolding entries
+entries_take zero j h = refl
+entries_take (suc n) [] h = absurd (omega arith)
+entries_take (suc n) (a ∷ []) h = absurd (omega arith)
+entries_take (suc n) (a ∷ b ∷ []) h = absurd (omega arith)
+entries_take (suc n) (a ∷ b ∷ c ∷ j) h =
+    let e : 3 * suc n ≡ suc (suc (suc (3 * n))) = omega arith in
+    rw e (cc (entries_take n j (omega arith)))
+
+pub front_entries : (n : ℕ) (j : List ℕ) → 3 * n ≤ length j
+    → entries_in (first_chunks 3 (length (take (3 * n) j) / 3) (take (3 * n) j)) ≡ entries n j
+front_entries n j h =
+    let size : length (take (3 * n) j) ≡ 3 * n = length-take-le (3 * n) j h in
+    let many : length (take (3 * n) j) / 3 ≡ n = omega arith in
+    rw many (chunks_entries n (take (3 * n) j) (omega arith) ∙ entries_take n j h)
 
 -- the entries that are left of `count` once i are passed
 abbrev pub rest : List ℕ → ℕ → ℕ → List Entry

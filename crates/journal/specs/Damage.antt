@@ -2,7 +2,8 @@
 use Rattle.std.specs.Prelude.{ℕ, ◌≤◌, ◌≡◌, Bool, true, ◌&&◌, List, [], ◌∷◌, leb, ltb}
 use Rattle.calendar.specs.Quarters.{quarter_exists}
 use Rattle.journal.specs.Value.{stored_right}
-use Rattle.journal.specs.Entries.{Entry, point_in, day_in, quarter_in}
+use Rattle.journal.specs.declared.Entry.{Entry}
+use Rattle.journal.specs.Entries.{point_in, day_in, quarter_in}
 
 -- an entry of a group with so many points and kept day K: its point is one of them, its day is not below K and has its quarter, its magnitude is right
 unfoldable pub entry_right : (points K : ℕ) → Entry → Bool

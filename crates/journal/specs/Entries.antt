@@ -1,16 +1,11 @@
 -- The entries of a journal: stamp, place, and what is stored of the value. Assumes nothing.
 use Rattle.std.specs.Prelude.{ℕ, ◌+◌, ◌*◌, ◌-◌, ◌/◌, ◌%◌, Bool, ◌&&◌, ◌||◌, List, map, leb, ltb, eqb}
 use Rattle.calendar.specs.Dates.{day_count}
+use Rattle.journal.specs.declared.Entry.{Entry}
 use Rattle.journal.specs.Value.{value_in}
 use Rattle.journal.specs.Order.{Reading}
 use Rattle.lists.specs.Those.{those}
 use Rattle.journal.specs.Readings.{shown, has_stamp}
-
--- one entry
-pub record Entry : Type 0 where
-  pub stamp : ℕ
-  pub place : ℕ
-  pub stored : ℕ
 
 -- how many places a point has: 100 for each day of the calendar
 abbrev pub point_places : ℕ

@@ -6,7 +6,8 @@ use Rattle.calendar.specs.Dates.{last_day}
 use Rattle.journal.specs.Value.{Value, value_of}
 use Rattle.journal.specs.Order.{Reading}
 use Rattle.journal.specs.Readings.{strongest, shown, same_as}
-use Rattle.journal.specs.Entries.{Entry, place_of, point_in, day_in, quarter_in, readings_at, keep}
+use Rattle.journal.specs.declared.Entry.{Entry}
+use Rattle.journal.specs.Entries.{place_of, point_in, day_in, quarter_in, readings_at, keep}
 use Rattle.journal.specs.Stored.{entries, written}
 use Rattle.journal.specs.Damage.{Right}
 

@@ -1,10 +1,18 @@
 -- Where entries stand in a journal, a list of numbers: three numbers an entry, from the front. Assumes nothing.
-use Rattle.std.specs.Prelude.{ℕ, zero, suc, ◌+◌, ◌*◌, List, [], ◌∷◌, ◌++◌, length, get_or, drop, replicate}
-use Rattle.journal.specs.Entries.{Entry}
+use Rattle.std.specs.Prelude.{ℕ, zero, suc, ◌+◌, ◌*◌, List, [], ◌∷◌, ◌++◌, map, length, get_or, drop, replicate}
+use Rattle.journal.specs.declared.Entry.{Entry}
 
 -- entry number i of a journal, from 0
 abbrev pub entry_at : List ℕ → ℕ → Entry
 entry_at j i = record { stamp = get_or j (3 * i) 0; place = get_or j (3 * i + 1) 0; stored = get_or j (3 * i + 2) 0 }
+
+-- the entry of three numbers
+abbrev pub entry_of : List ℕ → Entry
+entry_of numbers = record { stamp = get_or numbers 0 0; place = get_or numbers 1 0; stored = get_or numbers 2 0 }
+
+-- the entries of a list in which each stands as its three numbers
+abbrev pub entries_in : List (List ℕ) → List Entry
+entries_in lists = map entry_of lists
 
 -- the first n entries of a journal
 unfoldable pub entries : ℕ → List ℕ → List Entry

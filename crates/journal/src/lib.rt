@@ -1,14 +1,17 @@
 // The journal: a lent list of numbers, three an entry: stamp, place, and the magnitude that is stored.
 #![tactic(auto)]
 
-ghost use Rattle.std.specs.Prelude.{◌≡◌, ◌&&◌, ℕ, ◌+◌, ◌*◌, ◌/◌, ◌%◌, ◌≤◌, ◌<◌, length, leb, eqb};
+ghost use Rattle.std.specs.Prelude.{◌≡◌, ◌&&◌, ℕ, ◌+◌, ◌*◌, ◌/◌, ◌%◌, ◌≤◌, ◌<◌, length, get_or, reverse, leb, ltb, eqb};
+ghost use Rattle.std.specs.List.{find};
+ghost use Rattle.std.specs.Option.{option_map};
 ghost use Rattle.lists.specs.Place.{placed};
 ghost use Rattle.calendar.specs.Dates.{last_day};
 ghost use Rattle.calendar.specs.Quarters.{quarter_exists};
 ghost use Rattle.journal.specs.Readings.{shown};
 ghost use Rattle.journal.specs.Entries.{point_places, place_of, readings_at};
-ghost use Rattle.journal.specs.Stored.{entries, numbers};
+ghost use Rattle.journal.specs.Stored.{entry_of, entries_in, entries, numbers};
 ghost use Rattle.journal.specs.Damage.{entry_right, entries_right, Right};
+ghost use Rattle.journal.specs.Value.{stored_right};
 ghost use Rattle.journal.specs.Found.{found};
 
 // How many numbers an entry has.
@@ -17,11 +20,35 @@ pub const ENTRY: usize = 3;
 // How many places a point has: 100 for each day of the calendar.
 pub const POINT_PLACES: u64 = 100 * calendar::DAYS;
 
-// The reading shown for a place, by its stamp and the number stored, or none.
-#[derive(Clone, Copy)]
-pub enum Found {
-    Shown(u64, u64),
-    Nothing,
+// An entry of the journal: the stamp of its reading, its place, and the magnitude that is stored.
+#[derive(Clone, Copy, PartialEq, Eq, Debug)]
+pub struct Entry {
+    pub stamp: u64,
+    pub place: u64,
+    pub stored: u64,
+}
+
+// An entry from its three numbers.
+impl From<[u64; 3]> for Entry {
+    ghost from_gives = { λ numbers entry. entry ≡ entry_of numbers };
+
+    fn from(numbers: [u64; 3]) -> Entry {
+        let [stamp, place, stored] = numbers;
+        Entry {
+            stamp,
+            place,
+            stored,
+        }
+    }
+}
+
+// The first `count` entries of a journal, each as its three numbers.
+pub fn entries(journal: &[u64], count: usize) -> &[[u64; 3]]
+    requires { 3 * count ≤ length journal.now }
+    ensures { entries_in result.now ≡ entries count journal.now }
+{
+    let (entries, _) = journal[..ENTRY * count].as_chunks::<ENTRY>();
+    entries
 }
 
 // The place of a point, day and quarter.
@@ -32,96 +59,68 @@ pub fn place(point: u64, day: u64, quarter: u64) -> u64
     (point * calendar::DAYS + day) * 100 + (quarter - 1)
 }
 
-// Whether an entry with this stamp and place is for a place, with a stamp up to `until`.
-fn shows(stamp: u64, at: u64, place: u64, until: u64) -> bool
-    ensures { result ≡ (eqb at place && leb stamp until) }
+// The last entry for a place with a stamp up to `until`.
+fn last(entries: &[[u64; 3]], place: u64, until: u64) -> Option<Entry>
+    ensures { result ≡ option_map entry_of (find (λ numbers. eqb (get_or numbers 1 0) place && leb (get_or numbers 0 0) until) (reverse entries.now)) }
 {
-    if at != place {
-        return false;
-    }
-    stamp <= until
+    entries
+        .iter()
+        .rev()
+        .find(|[stamp, at, _]| *at == place && *stamp <= until)
+        .map(|numbers| Entry::from(*numbers))
 }
 
-// The reading shown for a place as of a stamp. The stamps rise, so from the last entry back the first that is met is the newest.
-pub fn shown(journal: &[u64], count: usize, place: u64, until: u64) -> Found
-    requires { (3 * count ≤ length journal.now) × Right (entries count journal.now) }
-    ensures { found result ≡ shown until (readings_at (entries count journal.now) place) }
+// The entry shown for a place as of a stamp. The stamps rise, so the last one is the newest.
+pub fn shown(entries: &[[u64; 3]], place: u64, until: u64) -> Option<Entry>
+    requires { Right (entries_in entries.now) }
+    ensures { found result ≡ shown until (readings_at (entries_in entries.now) place) }
 {
-    let mut i = count;
-    while i > 0 {
-        i -= 1;
-        let stamp = journal[3 * i];
-        if shows(stamp, journal[3 * i + 1], place, until) {
-            let stored = journal[3 * i + 2];
-            return Found::Shown(stamp, stored);
-        }
-    }
-    Found::Nothing
+    last(entries, place, until)
 }
 
 // Stores entry number i.
-pub fn put(journal: &mut [u64], i: usize, stamp: u64, place: u64, stored: u64)
+pub fn put(journal: &mut [u64], i: usize, entry: Entry)
     requires { 3 * i + 3 ≤ length journal.old }
-    ensures { journal.new ≡ placed (3 * i) (numbers (record { stamp = stamp; place = place; stored = stored })) journal.old }
+    ensures { journal.new ≡ placed (3 * i) (numbers entry) journal.old }
 {
-    let at = 3 * i;
-    journal[at] = stamp;
-    journal[at + 1] = place;
-    journal[at + 2] = stored;
+    let at = ENTRY * i;
+    let numbers = [entry.stamp, entry.place, entry.stored];
+    journal[at..at + ENTRY].copy_from_slice(&numbers);
 }
 
 // Whether a day has a quarter, both as one number, day × 100 + quarter − 1. Every day has the first 92, so only for later ones the calendar is asked.
+#[tactic(auto, using(crate::proofs::Rules::early_quarter))]
 fn quarter_right(slot: u64) -> bool
     requires { slot < point_places }
     ensures { result ≡ quarter_exists (slot / 100) (slot % 100 + 1) }
 {
     let quarter = slot % 100 + 1;
-    if quarter <= 92 {
-        return true;
-    }
-    calendar::exists(slot / 100, quarter)
+    quarter <= 92 || calendar::exists(slot / 100, quarter)
 }
 
 // Whether an entry is right, but for its stamp: its point, by the first place that is no point's, its day, by the first place of the kept day, its
 // magnitude, and last its quarter, for which the calendar may be asked.
 fn entry_right(place: u64, stored: u64, end: u64, first: u64) -> bool
-    ensures { (points K : ℕ) → end ≡ points * point_places → first ≡ K * 100 → result ≡ entry_right points K (record { stamp = 0; place = place; stored = stored }) }
+    ensures { result ≡ (ltb place end && leb first (place % point_places) && stored_right stored && quarter_exists (place % point_places / 100) (place % point_places % 100 + 1)) }
 {
-    if place >= end {
-        return false;
-    }
     let slot = place % POINT_PLACES;
-    if slot < first {
-        return false;
-    }
-    if stored > values::MAGNITUDE_MOST {
-        return false;
-    }
-    quarter_right(slot)
+    place < end && first <= slot && stored <= values::MAGNITUDE_MOST && quarter_right(slot)
 }
 
 // Whether the entries are right: their stamps rise within 1..last, and each is right.
-pub fn right(journal: &[u64], count: usize, points: u64, kept_day: u64, last: u64) -> bool
-    requires { (3 * count ≤ length journal.now) × (points ≤ 64) × (kept_day ≤ last_day) }
-    ensures { result ≡ entries_right points kept_day last 0 (entries count journal.now) }
+#[tactic(auto, using(crate::proofs::Rules::none_left))]
+pub fn right(entries: &[[u64; 3]], points: u64, kept_day: u64, last: u64) -> bool
+    requires { (points ≤ 64) × (kept_day ≤ last_day) }
+    ensures { result ≡ entries_right points kept_day last 0 (entries_in entries.now) }
 {
     let end = points * POINT_PLACES;
     let first = kept_day * 100;
     let mut before = 0;
-    let mut i = 0;
-    while i < count {
-        let stamp = journal[3 * i];
-        if stamp <= before {
-            return false;
-        }
-        if stamp > last {
-            return false;
-        }
-        if !entry_right(journal[3 * i + 1], journal[3 * i + 2], end, first) {
+    for &[stamp, place, stored] in entries {
+        if stamp <= before || stamp > last || !entry_right(place, stored, end, first) {
             return false;
         }
         before = stamp;
-        i += 1;
     }
     true
 }

@@ -17,7 +17,7 @@ use Rattle.journal.specs.Entries.{point_places, Entry, reading_of, readings_at}
 use Rattle.journal.specs.Damage.{RightFor}
 use Rattle.journal.proofs.ShownLaws.{Rising, rising_among, shown_append}
 use Rattle.journal.proofs.Kept.{readings_append}
-use Rattle.journal.proofs.Entries.{right_rising}
+use Rattle.journal.proofs.RightEntries.{right_rising}
 use Rattle.journal.proofs.Back.{shown_last}
 use Rattle.journal.proofs.Literal.{Tells, shown_tells}
 use Rattle.journal_clear.specs.Marks.{key_of, superseded, superseded_below, unstamped, marked}

@@ -16,7 +16,7 @@ use Rattle.calendar.specs.Quarters.{quarter_exists}
 use Rattle.journal.specs.Value.{stored_right}
 use Rattle.journal.specs.Entries.{point_places, Entry, point_in, day_in, quarter_in}
 use Rattle.journal.specs.Damage.{entry_right, entries_right, RightFor}
-use Rattle.journal.proofs.Entries.{parts, all4}
+use Rattle.journal.proofs.RightEntries.{parts, all4}
 use Rattle.journal_clear.specs.Marks.{key_of, window, no_place, superseded, superseded_below, marked, next_in}
 use Rattle.journal_clear.specs.Seen.{within}
 

@@ -8,7 +8,7 @@ use Rattle.journal.specs.Order.{Reading, weaker}
 use Rattle.journal.specs.Readings.{join, strongest, as_of, shown, value_shown}
 use Rattle.journal.specs.Entries.{Entry, point_in, day_in, quarter_in, readings_at}
 use Rattle.journal.specs.Damage.{entry_right, entries_right}
-use Rattle.journal.proofs.Entries.{all4, parts}
+use Rattle.journal.proofs.RightEntries.{all4, parts}
 use Rattle.values.specs.Values.{magnitude_most}
 use Rattle.lookup.specs.Earlier.{Slot, earlier}
 use Rattle.lookup.specs.Substitutes.{value_at, looked_up}

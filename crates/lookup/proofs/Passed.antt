@@ -6,7 +6,7 @@ use Rattle.journal.specs.Entries.{point_places, Entry, point_in, day_in, quarter
 use Rattle.journal.specs.Stored.{entry_at, entries}
 use Rattle.journal.specs.Damage.{entry_right, entries_right, Right}
 use Rattle.journal.proofs.ShownLaws.{Rising}
-use Rattle.journal.proofs.Entries.{all4, parts, right_rising}
+use Rattle.journal.proofs.RightEntries.{all4, parts, right_rising}
 use Rattle.journal.proofs.Back.{entries_snoc}
 use Rattle.values.specs.Values.{magnitude_most}
 

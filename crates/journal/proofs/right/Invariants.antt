@@ -1,10 +1,8 @@
 -- What the loop of `journal::right` keeps. Assumes nothing.
-use Prim.Native.Nat.{◌-◌}
-use Rattle.journal.proofs.Rules.{Passed}
+use Rattle.std.proofs.Common.{◌≡◌, drop}
+use Rattle.journal.specs.Stored.{entries_in}
+use Rattle.journal.specs.Damage.{entries_right}
 use Rattle.journal.proofs.right.Given as goal
 
-abbrev pub invariant-loop-i : goal.invariant-loop-i
-invariant-loop-i l = Passed l.points l.kept_day l.last l.journal l.count l.before l.i
-
-abbrev pub decreases-loop-i : goal.decreases-loop-i
-decreases-loop-i l = l.count - l.i
+abbrev pub invariant-loop-stamp : goal.invariant-loop-stamp
+invariant-loop-stamp l = entries_right l.points l.kept_day l.last 0 (entries_in l.entries) ≡ entries_right l.points l.kept_day l.last l.before (entries_in (drop l.stamp-index l.entries))

@@ -11,7 +11,8 @@ use Rattle.lists.proofs.Below.{and_left, and_right}
 use Rattle.calendar.specs.Quarters.{quarter_exists}
 use Rattle.journal.specs.Value.{stored_right}
 use Rattle.lists.specs.Those.{those}
-use Rattle.journal.specs.Entries.{Entry, point_in, day_in, quarter_in, readings_at}
+use Rattle.journal.specs.declared.Entry.{Entry}
+use Rattle.journal.specs.Entries.{point_in, day_in, quarter_in, readings_at}
 use Rattle.journal.specs.Damage.{entry_right, entries_right}
 use Rattle.journal.proofs.ShownLaws.{Rising}
 
