@@ -9,7 +9,11 @@ use lib.ListN.{length, take, drop, get_or, length-drop}
 use Rattle.std.specs.List.{list_all, list_any}
 use Rattle.std.proofs.lemmas.List.{take_all}
 use Rattle.std.proofs.lemmas.List.Folds.{list_all_more, list_any_more}
-use Rattle.lists.specs.Below.{every}
+use Rattle.std.proofs.lemmas.List.{get_or-take}
+use lib.Seq.{take-suc, length-take-le}
+use Rattle.lists.specs.Below.{every, differ}
+use Rattle.lists.specs.Tables.{joined, table}
+use Rattle.lists.proofs.Below.{differ_same}
 
 nor : (a b : Bool) → not (a || b) ≡ not a && not b
 nor true b = refl
@@ -32,6 +36,16 @@ module _ {A : Type 0} (test : A → Bool) (list : List A) (past : A) where
   -- and of each element of a list
   pub every_whole : every (λ i. test (get_or list i past)) (length list) ≡ list_all test list
   every_whole = every_take (length list) (omega arith) ∙ rw (take_all (length list) list (omega arith))
+
+-- the first n numbers: as a table, and whether they differ
+module _ (list : List ℕ) where
+  pub table_take : (n : ℕ) → n ≤ length list → table (λ i. get_or list i 0) n ≡ take n list
+  unfolding joined
+  table_take zero h = refl
+  table_take (suc n) h = rw (table_take n (omega arith)) (sym (take-suc list n 0 h))
+
+  pub differ_take : (n : ℕ) → n ≤ length list → differ (λ i. get_or (take n list) i 0) (length (take n list)) ≡ differ (λ i. get_or list i 0) n
+  differ_take n h = rw (length-take-le n list h) (differ_same _ _ n (λ i l. get_or-take n list i 0 l))
 
 -- where the first n elements of a list have been taken: one more is left there, or none is
 pub record Taken {A : Type 0} (list rest : List A) (n : ℕ) (x past : A) : Type 0 where

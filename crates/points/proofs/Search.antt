@@ -1,39 +1,26 @@
--- The search for a code in a list, place by place. Assumes nothing.
-use Prim.Native.Nat.{ℕ, suc, ◌+◌, ◌≤◌, ◌<◌}
-use native.Mathlib.Omega.{arith}
-use native.Mathlib.Nat.{zero-add}
+-- The first place of a code in a list, as the library finds it. Assumes nothing.
+use Prim.Native.Nat.{ℕ}
+use native.Mathlib.Nat.{add_comm}
 use native.Mathlib.Numerals.{add-one}
-use mathlib.Core.Path.{◌≡◌, sym}
+use mathlib.Core.Path.{◌≡◌, refl, sym, ◌∙◌}
+use mathlib.Core.Bool.{cond}
 use mathlib.Core.List.{List}
-use lib.ListN.{length, get_or, drop}
-use lib.Seq.{drop-cons, drop-length}
-use borrow.Author.Tests.{eq-eqb, ne_eqb}
-use Rattle.points.specs.Points.{index_of}
+use lib.Dec.{eqb}
+use borrow.Author.Tests.{eq-eqb, ne_eqb, eqb-true, eqb-false}
+use Rattle.lists.proofs.Cases.{by_test}
+use Rattle.std.specs.Prelude.{Some, None}
+use Rattle.std.specs.List.{position, position_or_len}
+use Rattle.std.proofs.lemmas.List.Recursion.{is_position_or_len}
+use Rattle.points.specs.Points.{index_of, has}
 
--- how far the search has come: the first place is that in what is left, moved by what was passed
-pub record Searched (code : ℕ) (xs : List ℕ) (passed : ℕ) : Type 0 where
-  pub within : passed ≤ length xs
-  pub further : index_of code xs ≡ passed + index_of code (drop passed xs)
+-- the test for a code is the same from either side
+same : (a b : ℕ) → eqb a b ≡ eqb b a
+same a b = by_test (eqb b a) (λ e. eq-eqb a b (sym (eqb-true b a e)) ∙ sym e) (λ e. ne_eqb a b (λ i. eqb-false b a e (sym i)) ∙ sym e)
 
-pub searched_none : (code : ℕ) (xs : List ℕ) → Searched code xs 0
-searched_none code xs = record { within = omega arith; further = sym (zero-add _) }
+index_is : (code : ℕ) (xs : List ℕ) → index_of code xs ≡ position_or_len (λ x. eqb x code) xs
+unfolding index_of
+index_is code xs = is_position_or_len (index_of code) (λ x. eqb x code) refl (λ x xs. rw (same x code, add_comm 1 (index_of code xs), add-one (index_of code xs)) refl) xs
 
-module _ (code : ℕ) (xs : List ℕ) (passed : ℕ) (s : Searched code xs passed) where
-  pub searched_here : passed < length xs → code ≡ get_or xs passed 0 → passed ≡ index_of code xs
-  unfolding index_of
-  searched_here h e =
-      let i : index_of code (drop passed xs) ≡ 0 = rw (drop-cons xs passed 0 h, eq-eqb code (get_or xs passed 0) e) in
-      omega (arith, s.further, i)
-
-  pub searched_next : passed < length xs → (code ≡ get_or xs passed 0 → ⊥) → Searched code xs (passed + 1)
-  unfolding index_of
-  searched_next h e =
-      let i : index_of code (drop passed xs) ≡ suc (index_of code (drop (suc passed) xs)) = rw (drop-cons xs passed 0 h, ne_eqb code (get_or xs passed 0) e) in
-      record { within = omega arith; further = rw (add-one passed) (omega (arith, s.further, i)) }
-
-  pub searched_all : length xs ≤ passed → length xs ≡ index_of code xs
-  unfolding index_of
-  searched_all h =
-      let e : passed ≡ length xs = omega (arith, s.within) in
-      let i : index_of code (drop passed xs) ≡ 0 = rw (e, drop-length xs) in
-      omega (arith, s.further, i, e)
+-- it is the index, where the list has the code
+pub position_is : (code : ℕ) (xs : List ℕ) → position (λ x. eqb x code) xs ≡ cond (has code xs) (Some (index_of code xs)) None
+position_is code xs = rw (index_is code xs)

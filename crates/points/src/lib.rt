@@ -1,23 +1,14 @@
 // The points of a group by their codes, and the sign that suits each: withdrawals arrive as negative numbers, supplies as positive.
 #![tactic(auto)]
 
-ghost use Rattle.std.specs.Prelude.{◌≡◌, ◌≤◌, get_or};
-ghost use Rattle.lists.specs.Tables.{table};
-ghost use Rattle.points.specs.Points.{index_of, sign_suits};
+ghost use Rattle.std.specs.Prelude.{◌≡◌, eqb, position};
+ghost use Rattle.points.specs.Points.{sign_suits};
 
-// The number of the point with a code, or the number of points where there is none.
-pub fn find(codes: &[u64; 64], points: usize, code: u64) -> usize
-    requires { points ≤ 64 }
-    ensures { result ≡ index_of code (table (λ point. get_or codes.now point 0) points) }
+// The number of the point with a code, where there is one.
+pub fn find(codes: &[u64], code: u64) -> Option<usize>
+    ensures { result ≡ position (λ other. eqb other code) codes.now }
 {
-    let mut point = 0;
-    while point < points {
-        if codes[point] == code {
-            return point;
-        }
-        point += 1;
-    }
-    points
+    codes.iter().position(|other| *other == code)
 }
 
 // Whether a value's sign suits its point: the producers are the first points, and 0 suits either side.
@@ -25,7 +16,8 @@ pub fn sign_suits(value: i64, point: usize, producers: usize) -> bool
     ensures { result ≡ sign_suits producers point value }
 {
     if point < producers {
-        return 0 <= value;
+        value >= 0
+    } else {
+        value <= 0
     }
-    value <= 0
 }
