@@ -3,12 +3,14 @@
 
 ghost use Rattle.std.specs.Prelude.{◌≡◌, ◌+◌, ◌≤◌, ◌<◌, length, OnOk};
 ghost use Rattle.std.specs.Io.KnownBytes.{Appends};
-ghost use Rattle.lists.specs.Place.{Put};
+ghost use Rattle.lists.specs.Pages.{Added};
 ghost use Rattle.calendar.specs.Changeovers.{changeover_count};
 ghost use Rattle.changeovers.specs.Text.{line_bytes, changeover_line, text_bytes, changeover_text};
 
 use std::io;
 use std::io::Write;
+
+use lists::Page;
 
 // The width of a line's column.
 const WIDTH: usize = 6;
@@ -16,14 +18,13 @@ const WIDTH: usize = 6;
 // How many bytes the lines of all entries have: the column's and LF for each.
 const TEXT_BYTES: usize = 1064;
 
-// Puts the line of the entry at a place of the table.
-fn put_line(out: &mut [u8], start: usize, place: usize) -> usize
-    requires { (place < changeover_count) × (start + line_bytes ≤ length out.old) }
-    ensures { Put start (changeover_line place) out.old out.new result }
+// Puts the line of the entry at a place of the table on a page.
+fn put_line(page: &mut Page<u8>, place: usize)
+    requires { (place < changeover_count) × (page.old.end + line_bytes ≤ length page.old.space.now) }
+    ensures { Added (changeover_line place) page.old page.new }
 {
-    let day = calendar::changeover_day(place);
-    let after_day = columns::put_number(out, start, WIDTH, day);
-    columns::put_byte(out, after_day, lines::LINE_FEED)
+    columns::put_number(page, WIDTH, calendar::changeover_day(place));
+    page.put(&[lines::LINE_FEED]);
 }
 
 // Fills a buffer with the lines of all entries.
@@ -31,11 +32,9 @@ fn put_lines(out: &mut [u8])
     requires { length out.old ≡ text_bytes }
     ensures { out.new ≡ changeover_text }
 {
-    let mut at = 0;
-    let mut place = 0;
-    while place < calendar::CHANGEOVERS.len() {
-        at = put_line(out, at, place);
-        place += 1;
+    let mut page = Page { space: out, end: 0 };
+    for place in 0..calendar::CHANGEOVERS.len() {
+        put_line(&mut page, place);
     }
 }
 

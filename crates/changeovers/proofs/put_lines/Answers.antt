@@ -2,21 +2,19 @@
 use native.Mathlib.Omega.{arith}
 use borrow.Author.Rules.{rules}
 use Rattle.lists.proofs.PlaceLaws.{put_whole}
-use Rattle.lists.proofs.Pieces.{no_pieces, next_fits, one_more, all_put}
+use Rattle.lists.proofs.Adding.{lent_put, no_piece, piece_fits, piece_more, all_pieces}
+use Rattle.calendar.specs.Changeovers.{changeover_count}
 use Rattle.changeovers.proofs.Lengths.{length_line, length_text}
 use Rattle.changeovers.proofs.put_lines.Goals as goal
 
 pub loop-place-init : goal.loop-place-init
-loop-place-init c = no_pieces (omega (arith, length_text, c.requires))
+loop-place-init c = no_piece _ (omega arith)
 
-pub put_line-at-requires : goal.put_line-at-requires
-put_line-at-requires c = (search rules, rw length_line at (next_fits c.loop-place.invariant (omega arith)))
+pub put_line-requires : goal.put_line-requires
+put_line-requires c = (search rules, rw length_line at (piece_fits _ c.loop-place.invariant changeover_count (omega arith) (omega (arith, length_text))))
 
 pub loop-place-preserved : goal.loop-place-preserved
-loop-place-preserved c = one_more c.loop-place.invariant (omega arith) c.put_line-at.ensures
-
-pub shape_of-out : goal.shape_of-out
-shape_of-out c = c.loop-place.invariant.same
+loop-place-preserved c = piece_more _ c.loop-place.invariant c.put_line.ensures
 
 pub returns : goal.returns
-returns c = put_whole (omega (arith, length_text, c.requires)) (all_put c.loop-place.invariant (omega arith))
+returns c = put_whole (omega (arith, length_text, c.requires)) (lent_put (all_pieces _ c.loop-place.invariant (omega arith) (omega arith)) (search rules))
