@@ -7,10 +7,9 @@ ghost use Rattle.lists.specs.Pages.{Added};
 ghost use Rattle.calendar.specs.Changeovers.{changeover_count};
 ghost use Rattle.changeovers.specs.Text.{line_bytes, changeover_line, text_bytes, changeover_text};
 
+use lists::Page;
 use std::io;
 use std::io::Write;
-
-use lists::Page;
 
 // The width of a line's column.
 const WIDTH: usize = 6;
@@ -19,6 +18,7 @@ const WIDTH: usize = 6;
 const TEXT_BYTES: usize = 1064;
 
 // Puts the line of the entry at a place of the table on a page.
+#[tactic(auto, using(columns::proofs::Laws::length_column))]
 fn put_line(page: &mut Page<u8>, place: usize)
     requires { (place < changeover_count) × (page.old.end + line_bytes ≤ length page.old.space.now) }
     ensures { Added (changeover_line place) page.old page.new }
