@@ -1,16 +1,15 @@
 -- The lines of a text: the first one byte by byte, what joins to the text, and bytes without an LF. Assumes nothing.
-use Prim.Native.Nat.{ℕ, zero, suc, ◌+◌, ◌-◌, ◌/◌, ◌%◌, ◌≤◌, ◌<◌}
+use Prim.Native.Nat.{ℕ, zero, suc, ◌+◌, ◌-◌, ◌/◌, ◌%◌, ◌≤◌}
 use mathlib.Core.Path.{◌≡◌, refl, sym, ap, ◌∙◌}
 use mathlib.Core.Bool.{Bool, true, false, cond, not, ◌&&◌}
 use mathlib.Core.List.{List, [], ◌∷◌, ◌++◌}
 use native.Mathlib.Omega.{arith}
-use native.Mathlib.Numerals.{add-one}
 use borrow.Author.Tests.{ne_eqb, lt-ltb, le-ltb, ltb-true, ltb-false}
 use Rattle.std.specs.Prelude.{Option, None, Some, position}
 use Rattle.std.specs.List.{position_or_len}
 use lib.Dec.{eqb, ltb, eqb-suc-zero}
-use lib.ListN.{length, get_or, take, drop, length-append, length-drop}
-use lib.Seq.{drop-cons, drop-drop, drop-length, take-append_seam, drop-append_seam}
+use lib.ListN.{length, take, drop, length-append, length-drop}
+use lib.Seq.{drop-drop, take-append_seam, drop-append_seam}
 use Rattle.columns.specs.Column.{byte_before, lead_of, column_of}
 use Rattle.columns.specs.Fields.{columns_of}
 use Rattle.lines.specs.Line.{first_line, after_line}

@@ -1,52 +1,40 @@
--- A line put piece by piece: its letter, its columns and its LF. Assumes nothing.
-use Prim.Native.Nat.{ℕ, ◌+◌, ◌≤◌}
-use mathlib.Core.Path.{◌≡◌, refl, ◌∙◌}
+-- Columns put one after the other, and a line in parts. Assumes nothing.
+use Prim.Native.Nat.{ℕ, ◌+◌, ◌≤◌, ◌<◌}
+use mathlib.Core.Path.{◌≡◌, sym, ◌∙◌}
 use mathlib.Core.Bool.{false}
 use mathlib.Core.List.{List, [], ◌∷◌, ◌++◌, append_assoc, append-nil}
 use native.Mathlib.Omega.{arith}
-use lib.ListN.{length, length-append}
-use Rattle.lists.specs.Place.{Put}
-use Rattle.lists.proofs.PlaceLaws.{put_length}
-use Rattle.lists.proofs.Pieces.{put_on}
+use lib.ListN.{length, get_or, take}
+use lib.Seq.{length-take-le}
+use Rattle.std.proofs.lemmas.List.{take_more}
+use Rattle.std.proofs.lemmas.List.Sums.{sum_by_more_le}
+use Rattle.lists.specs.declared.Page.{Page}
+use Rattle.lists.specs.Pages.{Added}
+use Rattle.lists.proofs.Adding.{added_then}
 use Rattle.columns.specs.Column.{column_of}
-use Rattle.columns.specs.Fields.{columns_of}
-use Rattle.columns.proofs.Laws.{length_column, columns_of_cons, columns_of_nil, columns_append}
+use Rattle.columns.specs.Fields.{total, columns_of}
+use Rattle.columns.proofs.Laws.{columns_of_cons, columns_of_nil, columns_append, length_columns, total_sum}
 use Rattle.lines.specs.Lines.{line_of}
 
--- where a column that was put ends
-pub column_end : (w n : ℕ) {at next : ℕ} {before after : List ℕ} → Put at (column_of false w n) before after next → next ≡ at + w
-column_end w n p = p.end ∙ rw length_column
+module _ (ws ns : List ℕ) (same : length ws ≡ length ns) (i : ℕ) (h : i < length ws) where
+  as_many : length (take i ws) ≡ length (take i ns)
+  as_many = length-take-le i ws (omega arith) ∙ sym (length-take-le i ns (omega arith))
 
--- numbers have been put in columns of these widths, one number for each
-pub record Fields (at : ℕ) (ws ns before after : List ℕ) (next : ℕ) : Type 0 where
-  pub put : Put at (columns_of ws ns) before after next
-  pub as_many : length ws ≡ length ns
+  -- the columns so far and the next one are within all of them
+  pub next_fits : length (columns_of (take i ws) (take i ns)) + get_or ws i 0 ≤ total ws
+  next_fits =
+      let l : length (columns_of (take i ws) (take i ns)) ≡ total (take i ws) = length_columns (take i ws) (take i ns) as_many in
+      rw (l, total_sum, total_sum) (sum_by_more_le (λ (w : ℕ). w) ws i 0 h)
 
-pub field : (w n : ℕ) {at next : ℕ} {before after : List ℕ} → Put at (column_of false w n) before after next
-    → Fields at (w ∷ []) (n ∷ []) before after next
-field w n p = record { put = rw (columns_of_cons, columns_of_nil, append-nil) p; as_many = refl }
-
--- columns after columns
-pub fields : {at middle end : ℕ} {ws ns vs ms before between after : List ℕ} → middle ≤ length before
-    → Fields at ws ns before between middle → Fields middle vs ms between after end → Fields at (ws ++ vs) (ns ++ ms) before after end
-fields {at} {middle} {end} {ws} {ns} {vs} {ms} h p q =
-    record {
-      put = rw (columns_append ws ns vs ms p.as_many) (put_on h p.put q.put);
-      as_many = simp length-append (omega arith);
-    }
-
--- a letter, columns and LF make a line
-pub line : {start columns close end : ℕ} {letter : ℕ} {ws ns before first second after : List ℕ} → end ≤ length before
-    → Put start (letter ∷ []) before first columns → Fields columns ws ns first second close → Put close (10 ∷ []) second after end
-    → Put start (line_of letter ws ns) before after end
-line {start} {columns} {close} {end} {letter} {ws} {ns} {before} {first} {second} {after} h p q r =
-    let l : columns ≤ length before = omega (arith, p.end, q.put.end, r.end) in
-    let m : close ≤ length first = omega (arith, put_length (omega (arith, p.end)) p, r.end) in
-    put_on l p (put_on m q.put r)
+  -- one column more
+  pub next_put : {before page after : Page ℕ} → Added (columns_of (take i ws) (take i ns)) before page → Added (column_of false (get_or ws i 0) (get_or ns i 0)) page after
+      → Added (columns_of (take (i + 1) ws) (take (i + 1) ns)) before after
+  next_put p q =
+      let one : columns_of (get_or ws i 0 ∷ []) (get_or ns i 0 ∷ []) ≡ column_of false (get_or ws i 0) (get_or ns i 0) = rw (columns_of_cons, columns_of_nil, append-nil) in
+      rw (take_more ws i 0 h, take_more ns i 0 (omega arith), columns_append _ _ _ _ as_many, one) (added_then p q)
 
 -- a line whose letter and first columns are put together
-pub line_in_parts : {start middle close end : ℕ} {letter : ℕ} (ws ns vs ms : List ℕ) {before first second after : List ℕ}
-    → length ws ≡ length ns → middle ≤ length before → close ≤ length first
-    → Put start (letter ∷ columns_of ws ns) before first middle → Put middle (columns_of vs ms) first second close → Put close (10 ∷ []) second after end
-    → Put start (line_of letter (ws ++ vs) (ns ++ ms)) before after end
-line_in_parts ws ns vs ms e l m p q r = rw (columns_append ws ns vs ms e, append_assoc) (put_on l p (put_on m q r))
+pub line_in_parts : (letter : ℕ) (ws ns vs ms : List ℕ) {before first second after : Page ℕ} → length ws ≡ length ns
+    → Added (letter ∷ columns_of ws ns) before first → Added (columns_of vs ms) first second → Added (10 ∷ []) second after
+    → Added (line_of letter (ws ++ vs) (ns ++ ms)) before after
+line_in_parts letter ws ns vs ms e p q r = rw (columns_append ws ns vs ms e, append_assoc) (added_then p (added_then q r))

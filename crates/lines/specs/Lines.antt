@@ -1,5 +1,5 @@
 -- A line: a letter, numbers in columns of given widths, and LF. Assumes nothing.
-use Rattle.std.specs.Prelude.{ℕ, ◌+◌, Bool, cond, ◌&&◌, List, [], ◌∷◌, ◌++◌, length, get_or, drop, eqb, Option, None, Some}
+use Rattle.std.specs.Prelude.{ℕ, ◌+◌, Bool, cond, ◌&&◌, List, [], ◌∷◌, ◌++◌, length, get_or, drop, eqb, Option, None}
 use Rattle.columns.specs.Fields.{total, columns_of, numbers_in}
 
 -- what is written: the letter, the numbers in their columns, and LF

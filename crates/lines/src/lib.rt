@@ -3,10 +3,12 @@
 
 ghost use Rattle.std.specs.Prelude.{◌≡◌, [], ◌∷◌, ◌+◌, ◌≤◌, ◌<◌, ◌^◌, eqb, length, position, sum};
 ghost use Rattle.columns.specs.Column.{widest};
-ghost use Rattle.columns.specs.Fields.{total, numbers_in};
-ghost use Rattle.lists.specs.Place.{Put};
+ghost use Rattle.columns.specs.Fields.{total, columns_of, numbers_in};
+ghost use Rattle.lists.specs.Pages.{Added};
 ghost use Rattle.lines.specs.Line.{first_line, after_line};
 ghost use Rattle.lines.specs.Lines.{line_of, is_framed, line_in};
+
+use lists::Page;
 
 // The byte that ends a line.
 pub const LINE_FEED: u8 = b'\n';
@@ -30,6 +32,16 @@ impl<const N: usize> Format<N> {
         }
         read_columns(&line[1..], &self.widths)
     }
+
+    // Puts a line of this format with these numbers on a page.
+    pub fn put(&self, page: &mut Page<u8>, numbers: [u64; N])
+        requires { page.old.end + (total self.now.widths + 2) ≤ length page.old.space.now }
+        ensures { Added (line_of self.now.letter self.now.widths numbers.entry) page.old page.new }
+    {
+        page.put(&[self.letter]);
+        put_columns(page, &self.widths, &numbers);
+        page.put(&[LINE_FEED]);
+    }
 }
 
 // The place of the first LF of a text.
@@ -52,10 +64,7 @@ pub fn split_line(text: &[u8]) -> (&[u8], &[u8])
 pub fn is_framed(line: &[u8], letter: u8, size: usize) -> bool
     ensures { result ≡ is_framed letter size line.now }
 {
-    line.len() >= 2
-        && line.len() - 2 == size
-        && line[0] == letter
-        && line[size + 1] == LINE_FEED
+    line.len() >= 2 && line.len() - 2 == size && line[0] == letter && line[size + 1] == LINE_FEED
 }
 
 // How many bytes columns of these widths take.
@@ -79,4 +88,14 @@ pub fn read_columns<const N: usize>(bytes: &[u8], widths: &[usize; N]) -> Option
         rest = others;
     }
     Some(numbers)
+}
+
+// Puts numbers in columns of these widths on a page.
+pub fn put_columns<const N: usize>(page: &mut Page<u8>, widths: &[usize; N], numbers: &[u64; N])
+    requires { page.old.end + total widths.now ≤ length page.old.space.now }
+    ensures { Added (columns_of widths.now numbers.now) page.old page.new }
+{
+    for (i, width) in widths.iter().enumerate() {
+        columns::put_number(page, *width, numbers[i]);
+    }
 }

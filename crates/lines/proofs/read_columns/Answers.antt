@@ -1,13 +1,10 @@
 -- `lines::read_columns` meets its contract: the numbers read so far, before those of the other columns, are all the numbers.
 use mathlib.Core.Path.{◌≡◌, sym, ap, ◌∙◌}
-use Prim.Native.Nat.{ℕ, ◌+◌}
-use mathlib.Core.List.{List}
 use Rattle.std.specs.Prelude.{None, Some}
 use native.Mathlib.Omega.{arith}
 use lib.ListN.{get_or, take, length-set}
 use Rattle.std.proofs.lemmas.List.{take_more_set}
 use Rattle.columns.specs.Column.{number_in}
-use Rattle.columns.specs.Fields.{numbers_in}
 use Rattle.lines.proofs.Parts.{next_width, next_refused, next_read, all_read}
 use Rattle.lines.proofs.read_columns.Goals as goal
 
