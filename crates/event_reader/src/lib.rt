@@ -1,11 +1,10 @@
-// The lines of events: M, a submission; C, a clear; E, an evaluation. Each line goes to the column reader for its letter.
+// The lines of events: M, a submission; C, a clear; E, an evaluation. Each line goes to the reader for its letter.
 #![tactic(auto)]
 
 ghost use Rattle.std.specs.Prelude.{◌≡◌};
 ghost use Rattle.event_reader.specs.Events.{submission_in, clear_in, evaluation_in, event_in};
 
-use columns::Signed;
-use lines::{Three, Two};
+use lines::Format;
 
 // What a line asks for, with the date as it stands there.
 #[derive(Clone, Copy)]
@@ -26,72 +25,76 @@ pub enum Event {
         quarter: u64,
         until: u64,
     },
-    Malformed,
 }
 
 // The bytes of an M line between its letter and its LF.
 const SIZE_M: usize = 55;
 
+// An M line's clock, code, date and quarter.
+const WIDTHS_M: [usize; 4] = [13, 19, 9, 4];
+
+// A C line's date and stamp.
+const CLEAR: Format<2> = Format {
+    letter: b'C',
+    widths: [9, 13],
+};
+
+// An E line's date, quarter and T.
+const EVALUATION: Format<3> = Format {
+    letter: b'E',
+    widths: [9, 4, 13],
+};
+
 // Reads an M line.
-fn read_submission(line: &[u8]) -> Event
+#[tactic(auto, unfolding(crate::specs::Events::submission_in))]
+fn read_submission(line: &[u8]) -> Option<Event>
     ensures { result ≡ submission_in line.now }
 {
     if !lines::is_framed(line, b'M', SIZE_M) {
-        return Event::Malformed;
+        return None;
     }
-    let Two::Are(clock, code) = lines::read_two(&line[1..], 13, 19) else {
-        return Event::Malformed;
-    };
-    let Two::Are(date, quarter) = lines::read_two(&line[33..], 9, 4) else {
-        return Event::Malformed;
-    };
-    let Signed::Is(value) = columns::read_signed(&line[46..56]) else {
-        return Event::Malformed;
-    };
-    Event::Submission {
+    let [clock, code, date, quarter] = lines::read_columns(&line[1..], &WIDTHS_M)?;
+    let value = columns::read_signed(&line[46..56])?;
+    Some(Event::Submission {
         clock,
         code,
         date,
         quarter,
         value,
-    }
+    })
 }
 
 // Reads a C line.
-fn read_clear(line: &[u8]) -> Event
+#[tactic(auto, unfolding(crate::specs::Events::clear_in))]
+fn read_clear(line: &[u8]) -> Option<Event>
     ensures { result ≡ clear_in line.now }
 {
-    match lines::line_of_two(line, b'C', 9, 13) {
-        Two::Are(date, stamp) => Event::Clear { date, stamp },
-        Two::Bad => Event::Malformed,
-    }
+    let [date, stamp] = CLEAR.read(line)?;
+    Some(Event::Clear { date, stamp })
 }
 
 // Reads an E line.
-fn read_evaluation(line: &[u8]) -> Event
+#[tactic(auto, unfolding(crate::specs::Events::evaluation_in))]
+fn read_evaluation(line: &[u8]) -> Option<Event>
     ensures { result ≡ evaluation_in line.now }
 {
-    match lines::line_of_three(line, b'E', 9, 4, 13) {
-        Three::Are(date, quarter, until) => Event::Evaluation {
-            date,
-            quarter,
-            until,
-        },
-        Three::Bad => Event::Malformed,
-    }
+    let [date, quarter, until] = EVALUATION.read(line)?;
+    Some(Event::Evaluation {
+        date,
+        quarter,
+        until,
+    })
 }
 
-// Reads a line of an event by its letter; a line of any other letter, or with none, is malformed.
-pub fn read(line: &[u8]) -> Event
+// Reads a line of an event by its letter; a line of any other letter, or with none, asks for nothing.
+#[tactic(auto, unfolding(crate::specs::Events::event_in))]
+pub fn read(line: &[u8]) -> Option<Event>
     ensures { result ≡ event_in line.now }
 {
-    if line.len() == 0 {
-        return Event::Malformed;
-    }
-    match line[0] {
+    match line.first()? {
         b'M' => read_submission(line),
         b'C' => read_clear(line),
         b'E' => read_evaluation(line),
-        _ => Event::Malformed,
+        _ => None,
     }
 }
