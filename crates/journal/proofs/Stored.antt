@@ -1,5 +1,5 @@
 -- Entries in a journal: what is written is read again, and what stands behind it; what is read is written again; one more entry is three numbers placed;
--- and the entries as arrays of their three numbers. Assumes nothing.
+-- the entries as arrays of their three numbers; and the entries from number i on are entry i and those from i + 1 on. Assumes nothing.
 use Prim.Native.Nat.{ℕ, zero, suc, ◌+◌, ◌*◌, ◌-◌, ◌/◌, ◌≤◌, ◌<◌}
 use native.Mathlib.Omega.{arith}
 use native.Mathlib.Nat.{add-zero}

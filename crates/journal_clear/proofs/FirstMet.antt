@@ -13,7 +13,8 @@ use Rattle.lists.proofs.Cases.{by_test, by_option}
 use Rattle.lists.proofs.Below.{and_left, and_right}
 use Rattle.journal.specs.Order.{Reading, weaker}
 use Rattle.journal.specs.Readings.{join, shown, has_stamp}
-use Rattle.journal.specs.Entries.{point_places, Entry, reading_of, readings_at}
+use Rattle.journal.specs.declared.Entry.{Entry}
+use Rattle.journal.specs.Entries.{point_places, reading_of, readings_at}
 use Rattle.journal.specs.Damage.{RightFor}
 use Rattle.journal.proofs.ShownLaws.{Rising, rising_among, shown_append}
 use Rattle.journal.proofs.Kept.{readings_append}

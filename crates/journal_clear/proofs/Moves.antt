@@ -1,10 +1,10 @@
 -- Entries moved to the front: one turn of the moving. Assumes nothing.
 use Prim.Native.Nat.{ℕ, ◌+◌, ◌*◌, ◌≤◌, ◌<◌}
-use mathlib.Core.Path.{◌≡◌, refl, sym, ap, ◌∙◌}
+use mathlib.Core.Path.{◌≡◌, refl, sym, ◌∙◌}
 use mathlib.Core.Bool.{true, false}
 use mathlib.Core.List.{List, ◌++◌, append_assoc, append-nil}
 use native.Mathlib.Omega.{arith}
-use lib.ListN.{length, take, drop}
+use lib.ListN.{length, take}
 use Rattle.lists.specs.Place.{placed}
 use Rattle.lists.proofs.PlaceLaws.{take_placed, drop_placed}
 use Rattle.lists.specs.Those.{those}
@@ -23,12 +23,11 @@ module _ (K count : ℕ) where
     pub ahead : i ≤ count
     pub same_length : length j ≡ length first
     pub fits : 3 * count ≤ length j
-    pub later : drop (3 * count) j ≡ drop (3 * count) first
     pub done : moved_and_left j kept i ≡ flat (those (is_left K) (entries count first))
 
   pub start : (j : List ℕ) → 3 * count ≤ length j → Moving j j 0 0
   start j h =
-      record { behind = omega arith; ahead = omega arith; same_length = refl; fits = h; later = refl; done = rw rest_start }
+      record { behind = omega arith; ahead = omega arith; same_length = refl; fits = h; done = rw rest_start }
 
   pub finish : (first j : List ℕ) (kept i : ℕ) → count ≤ i → Moving first j kept i → Compacted K count first j kept
   unfolding flat
@@ -36,7 +35,6 @@ module _ (K count : ℕ) where
       let e : i ≡ count = omega (arith, g.ahead) in
       record {
         front = sym (rw (e, rest_end, append-nil)) ∙ g.done;
-        later = g.later;
         few = omega (arith, g.behind);
       }
 
@@ -50,7 +48,6 @@ module _ (K count : ℕ) where
           ahead = omega arith;
           same_length = g.same_length;
           fits = g.fits;
-          later = g.later;
           done = sym step ∙ g.done;
         })
 
@@ -69,6 +66,5 @@ module _ (K count : ℕ) where
           ahead = omega arith;
           same_length = l ∙ g.same_length;
           fits = omega (arith, g.fits);
-          later = ap (drop (3 * count)) ej ∙ drop_placed (3 * kept) put j room (3 * count) (omega (arith, g.behind)) ∙ g.later;
           done = rw (ej, ek) (sym step ∙ g.done);
         }

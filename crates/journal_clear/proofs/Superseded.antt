@@ -9,7 +9,8 @@ use borrow.Author.Tests.{leb-true, leb-false, lt-ltb, le-ltb, ne_eqb}
 use Rattle.lists.proofs.Cases.{by_test}
 use Rattle.lists.specs.Those.{those}
 use Rattle.journal.specs.Readings.{shown, has_stamp}
-use Rattle.journal.specs.Entries.{Entry, day_in, readings_at, kept, keep}
+use Rattle.journal.specs.declared.Entry.{Entry}
+use Rattle.journal.specs.Entries.{day_in, readings_at, kept, keep}
 use Rattle.journal_clear.specs.Marks.{superseded, marked, is_left}
 
 module _ (K P : ℕ) (all : List Entry) where

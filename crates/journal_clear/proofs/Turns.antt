@@ -1,19 +1,20 @@
 -- One entry of a pass: a law for each way through the code. Assumes nothing.
 use Prim.Native.Nat.{ℕ, ◌+◌, ◌*◌, ◌-◌, ◌≤◌, ◌<◌}
 use mathlib.Core.Path.{◌≡◌}
-use mathlib.Core.Bool.{true, false, ◌||◌}
+use mathlib.Core.Bool.{true, false, cond, ◌||◌}
 use mathlib.Core.List.{List}
 use native.Mathlib.Omega.{arith}
 use lib.Dec.{leb, eqb}
 use lib.ListN.{set}
-use borrow.Author.Tests.{eqb-true, eqb-false, lt-ltb, le-ltb, le-leb, lt-leb, ne_eqb}
+use borrow.Author.Tests.{eqb-true, eqb-false, le-leb, lt-leb, ne_eqb}
+use Rattle.std.specs.Prelude.{Option, Some}
 use Rattle.lists.proofs.Cases.{by_test}
-use Rattle.journal.specs.Entries.{Entry}
-use Rattle.journal_clear.specs.Marks.{key_of, window}
+use Rattle.journal.specs.declared.Entry.{Entry}
+use Rattle.journal_clear.specs.Marks.{key_of, window, is_less}
 use Rattle.journal_clear.specs.Seen.{has_seen, Saw, within, shows, Turned}
 use Rattle.journal_clear.proofs.Windows.{in_window, below_window, above_window}
 
-module _ (points lo P : ℕ) (e : Entry) (i : ℕ) (j seen : List ℕ) (next : ℕ) where
+module _ (points lo P : ℕ) (e : Entry) (i : ℕ) (j seen : List ℕ) (next : Option ℕ) where
   -- the entry's key
   abbrev p : ℕ
   p = key_of points e.place
@@ -30,19 +31,11 @@ module _ (points lo P : ℕ) (e : Entry) (i : ℕ) (j seen : List ℕ) (next : �
         table = outside (λ k l q. omega arith);
       }
 
-  pub beyond_less : lo ≤ p → window ≤ p - lo → p < next → Turned points lo P e i j seen next j seen p
-  beyond_less l h n =
+  pub beyond : lo ≤ p → window ≤ p - lo → Turned points lo P e i j seen next j seen (cond (is_less p next) (Some p) next)
+  beyond l h =
       record {
         journal = rw (above_window lo (lo + window) p (omega arith));
-        least = rw (le-leb (lo + window) p (omega arith), lt-ltb p next n);
-        table = outside (λ k m q. omega arith);
-      }
-
-  pub beyond : lo ≤ p → window ≤ p - lo → next ≤ p → Turned points lo P e i j seen next j seen next
-  beyond l h n =
-      record {
-        journal = rw (above_window lo (lo + window) p (omega arith));
-        least = rw (le-leb (lo + window) p (omega arith), le-ltb p next n);
+        least = rw (le-leb (lo + window) p (omega arith));
         table = outside (λ k m q. omega arith);
       }
 

@@ -1,6 +1,6 @@
 -- The table of bits of a pass, and what the code of a pass does at one entry. Assumes nothing.
-use Rattle.std.specs.Prelude.{ℕ, ◌+◌, ◌*◌, ◌-◌, ◌/◌, ◌%◌, ◌^◌, ◌<◌, ◌≡◌, Bool, true, cond, ◌&&◌, ◌||◌, List, get_or, set, leb, ltb, eqb}
-use Rattle.journal.specs.Entries.{Entry}
+use Rattle.std.specs.Prelude.{ℕ, ◌+◌, ◌*◌, ◌-◌, ◌/◌, ◌%◌, ◌^◌, ◌<◌, ◌≡◌, Bool, true, cond, ◌&&◌, ◌||◌, List, get_or, set, leb, ltb, eqb, Option}
+use Rattle.journal.specs.declared.Entry.{Entry}
 use Rattle.journal_clear.specs.Marks.{key_of, window, lesser}
 
 -- whether key number k of a window was seen: bit k % 64 of word k / 64 of the table
@@ -25,7 +25,7 @@ abbrev pub seen_again : (points lo P : ℕ) → Entry → (seen : List ℕ) → 
 seen_again points lo P e seen = within lo (lo + window) (key_of points e.place) && (leb e.stamp P && has_seen seen (key_of points e.place - lo))
 
 -- what a pass does at entry number i: the journal, the table and the next key, before and after
-pub record Turned (points lo P : ℕ) (e : Entry) (i : ℕ) (before seen : List ℕ) (next : ℕ) (after seen' : List ℕ) (next' : ℕ) : Type 0 where
+pub record Turned (points lo P : ℕ) (e : Entry) (i : ℕ) (before seen : List ℕ) (next : Option ℕ) (after seen' : List ℕ) (next' : Option ℕ) : Type 0 where
   pub journal : after ≡ cond (seen_again points lo P e seen) (set before (3 * i) 0) before
   pub least : next' ≡ lesser points (lo + window) e next
   pub table : (k : ℕ) → k < window → has_seen seen' k ≡ (shows points (lo + k) P e || has_seen seen k)

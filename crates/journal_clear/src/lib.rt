@@ -5,21 +5,27 @@
 // or two, however many points there are, and the fewer there are the longer is the time that a window holds.
 #![tactic(auto)]
 
-ghost use Rattle.std.specs.Prelude.{◌≡◌, not, ◌&&◌, ◌+◌, ◌*◌, ◌<◌, ◌≤◌, length, replicate, eqb, leb};
-ghost use Rattle.journal.specs.Entries.{day_in};
+ghost use Rattle.std.specs.Prelude.{◌≡◌, ◌+◌, ◌*◌, ◌/◌, ◌<◌, ◌≤◌, length, cond, Some};
 ghost use Rattle.journal.specs.Stored.{entries, entry_at};
 ghost use Rattle.journal.specs.Damage.{RightFor};
 ghost use Rattle.journal_clear.specs.Cleared.{JournalCleared};
-ghost use Rattle.journal_clear.specs.Marks.{Passed, Marked, Compacted};
+ghost use Rattle.journal_clear.specs.Marks.{is_less, is_left, Passed, Marked, Compacted};
 ghost use Rattle.journal_clear.specs.Seen.{has_seen, Saw, Turned};
+
+use journal::{ENTRY, Entry, POINT_PLACES};
 
 // How many keys a window has, and how many words the table: a bit for each key.
 const WINDOW: u64 = 1048576;
 
 const WORDS: usize = 16384;
 
-// The greatest number, which is the key of no place.
-const NO_PLACE: u64 = 18446744073709551615;
+// What a pass marks: entries of a group of so many points, up to a stamp, in the window of the keys from `lo` on.
+#[derive(Clone, Copy)]
+struct Window {
+    points: u64,
+    stamp: u64,
+    lo: u64,
+}
 
 // Whether key number k of the window was seen: bit k % 64 of word k / 64.
 fn has(seen: &[u64], k: usize) -> bool
@@ -34,115 +40,105 @@ fn see(seen: &mut [u64], k: usize)
     requires { k < 64 * length seen.old }
     ensures { Saw seen.old k seen.new }
 {
-    let at = k / 64;
-    seen[at] = seen[at] | (1u64 << (k % 64));
+    seen[k / 64] |= 1 << (k % 64);
 }
 
-// One entry of a pass. Up to the stamp and in the window, it loses its stamp where its key was seen, and its key is seen where it was not.
-// Returns the least key beyond the window among this entry and those before.
+// The lesser of a key and the least one so far, if there is one.
+fn lesser(next: Option<u64>, key: u64) -> Option<u64>
+    ensures { result ≡ cond (is_less key next) (Some key) next }
+{
+    match next {
+        Some(least) if least <= key => next,
+        _ => Some(key),
+    }
+}
+
+// The numbers stay a flat slice below: of arrays that `as_chunks_mut` lends out nothing is known of what the slice ends as.
+
+// One entry of a pass, by its number. Up to the stamp and in the window, it loses its stamp where its key was seen, and its key is seen where it was
+// not. Returns the least key beyond the window among this entry and those before, if there is one.
 fn turn(
-    journal: &mut [u64],
+    numbers: &mut [u64],
     seen: &mut [u64],
     i: usize,
-    points: u64,
-    stamp: u64,
-    lo: u64,
-    next: u64,
-) -> u64
-    requires { (3 * i + 3 ≤ length journal.old) × (length seen.old ≡ 16384) × (points ≤ 64) }
-    ensures { Turned points lo stamp (entry_at journal.old i) i journal.old seen.old next journal.new seen.new result }
+    window: Window,
+    next: Option<u64>,
+) -> Option<u64>
+    requires { (3 * i + 3 ≤ length numbers.old) × (length seen.old ≡ 16384) × (window.points ≤ 64) }
+    ensures { Turned window.points window.lo window.stamp (entry_at numbers.old i) i numbers.old seen.old next numbers.new seen.new result }
 {
-    let place = journal[3 * i + 1];
-    let key = place % journal::POINT_PLACES * points + place / journal::POINT_PLACES;
-    if key < lo {
+    let place = numbers[ENTRY * i + 1];
+    let key = place % POINT_PLACES * window.points + place / POINT_PLACES;
+    if key < window.lo {
         return next;
     }
-    let k = key - lo;
+    let k = key - window.lo;
     if k >= WINDOW {
-        if key < next {
-            return key;
-        }
-        return next;
+        return lesser(next, key);
     }
-    if stamp < journal[3 * i] {
+    if window.stamp < numbers[ENTRY * i] {
         return next;
     }
     let at = k as usize;
     if has(seen, at) {
-        journal[3 * i] = 0;
+        numbers[ENTRY * i] = 0;
         return next;
     }
     see(seen, at);
     next
 }
 
-// Marks the superseded entries whose keys are in the window from `lo` on: of a place, all up to the stamp but the first one met from the last
-// entry back. Returns the least key beyond the window.
-fn pass(journal: &mut [u64], count: usize, points: u64, stamp: u64, lo: u64) -> u64
-    requires { (3 * count ≤ length journal.old) × (points ≤ 64) }
-    ensures { Passed points lo stamp count journal.old journal.new result }
+// Marks the superseded entries whose keys are in the window: of a place, all up to the stamp but the first one met from the last entry back. Returns
+// the least key beyond the window, if there is one.
+fn pass(numbers: &mut [u64], window: Window) -> Option<u64>
+    requires { window.points ≤ 64 }
+    ensures { Passed window.points window.lo window.stamp (length numbers.old / 3) numbers.old numbers.new result }
 {
-    let mut seen = [0u64; WORDS];
-    let mut next = NO_PLACE;
-    let mut passed = 0;
-    while passed < count {
-        passed += 1;
-        let i = count - passed;
-        next = turn(journal, &mut seen, i, points, stamp, lo, next);
+    let mut seen = [0; WORDS];
+    let mut next = None;
+    for i in (0..numbers.len() / ENTRY).rev() {
+        next = turn(numbers, &mut seen, i, window, next);
     }
     next
 }
 
 // Marks every superseded entry: a pass for the window from 0 on, then one for each window that has an entry's key.
-fn mark(journal: &mut [u64], count: usize, points: u64, stamp: u64)
-    requires { (3 * count ≤ length journal.old) × RightFor points (entries count journal.old) }
-    ensures { Marked stamp count journal.old journal.new }
+fn mark(numbers: &mut [u64], points: u64, stamp: u64)
+    requires { RightFor points (entries (length numbers.old / 3) numbers.old) }
+    ensures { Marked stamp (length numbers.old / 3) numbers.old numbers.new }
 {
-    let mut lo = 0;
-    while lo < NO_PLACE {
-        lo = pass(journal, count, points, stamp, lo);
+    let mut next = Some(0);
+    while let Some(lo) = next {
+        let window = Window { points, stamp, lo };
+        next = pass(numbers, window);
     }
 }
 
 // Whether an entry is left: it has a stamp, and its day is not below `day`.
-fn left(stamp: u64, place: u64, day: u64) -> bool
-    ensures { result ≡ (not (eqb stamp 0) && leb day (day_in place)) }
+fn left(entry: Entry, day: u64) -> bool
+    ensures { result ≡ is_left day entry }
 {
-    if stamp == 0 {
-        return false;
-    }
-    day <= place / 100 % calendar::DAYS
+    entry.stamp != 0 && day <= entry.place / 100 % calendar::DAYS
 }
 
 // Moves the entries that are left to the front, in order. Returns how many they are.
-fn compact(journal: &mut [u64], count: usize, day: u64) -> usize
-    requires { 3 * count ≤ length journal.old }
-    ensures { Compacted day count journal.old journal.new result }
+fn compact(numbers: &mut [u64], day: u64) -> usize
+    ensures { Compacted day (length numbers.old / 3) numbers.old numbers.new result }
 {
     let mut moved = 0;
-    let mut i = 0;
-    while i < count {
-        let stamp = journal[3 * i];
-        let place = journal[3 * i + 1];
-        let stored = journal[3 * i + 2];
-        if left(stamp, place, day) {
-            journal::put(journal, moved, stamp, place, stored);
+    for i in 0..numbers.len() / ENTRY {
+        let at = ENTRY * i;
+        let entry = Entry {
+            stamp: numbers[at],
+            place: numbers[at + 1],
+            stored: numbers[at + 2],
+        };
+        if left(entry, day) {
+            journal::put(numbers, moved, entry);
             moved += 1;
         }
-        i += 1;
     }
     moved
-}
-
-// Every number becomes 0.
-fn zero(numbers: &mut [u64])
-    ensures { numbers.new ≡ replicate (length numbers.old) 0 }
-{
-    let mut i = 0;
-    while i < numbers.len() {
-        numbers[i] = 0;
-        i += 1;
-    }
 }
 
 // Clears the first `count` entries, of a group of so many points, in place: those that K = day and P = stamp keep move to the front, in order,
@@ -151,10 +147,9 @@ pub fn keep(journal: &mut [u64], count: usize, points: u64, day: u64, stamp: u64
     requires { (3 * count ≤ length journal.old) × RightFor points (entries count journal.old) }
     ensures { JournalCleared day stamp count journal.old journal.new result }
 {
-    mark(journal, count, points, stamp);
-    let kept = compact(journal, count, day);
-    let start = 3 * kept;
-    let end = 3 * count;
-    zero(&mut journal[start..end]);
+    let numbers = &mut journal[..ENTRY * count];
+    mark(numbers, points, stamp);
+    let kept = compact(numbers, day);
+    numbers[ENTRY * kept..].fill(0);
     kept
 }

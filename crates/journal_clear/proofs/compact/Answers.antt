@@ -14,8 +14,8 @@ pub loop-i-preserved : goal.loop-i-preserved
 loop-i-preserved c =
     let said = sym c.left.ensures in
     elim c.if-left.branch [
-      | then-left w ↦ moved_one _ _ _ _ _ _ _ _ c.loop-i.invariant (omega arith) (said ∙ w.if-left.true) (ap length w.journal-is ∙ w.put.auto.journal) (w.journal-is ∙ w.put.ensures) w.moved-is
-      | else-left w ↦ passed_over _ _ _ _ _ _ _ _ c.loop-i.invariant (omega arith) (said ∙ w.if-left.false) w.journal-is w.moved-is
+      | then-left w ↦ moved_one _ _ _ _ _ _ _ _ c.loop-i.invariant (omega arith) (said ∙ w.if-left.true) (ap length w.numbers-is ∙ w.put.auto.journal) (w.numbers-is ∙ w.put.ensures) w.moved-is
+      | else-left w ↦ passed_over _ _ _ _ _ _ _ _ c.loop-i.invariant (omega arith) (said ∙ w.if-left.false) w.numbers-is w.moved-is
     ]
 
 pub returns : goal.returns

@@ -1,10 +1,8 @@
 -- What the loop of `journal_clear::compact` keeps. Assumes nothing.
-use Prim.Native.Nat.{◌-◌}
+use Prim.Native.Nat.{◌/◌}
+use lib.ListN.{length}
 use Rattle.journal_clear.proofs.Moves.{Moving}
 use Rattle.journal_clear.proofs.compact.Given as goal
 
 abbrev pub invariant-loop-i : goal.invariant-loop-i
-invariant-loop-i l = Moving l.day l.count l.initial.journal l.journal l.moved l.i
-
-abbrev pub decreases-loop-i : goal.decreases-loop-i
-decreases-loop-i l = l.count - l.i
+invariant-loop-i l = Moving l.day (length l.initial.numbers / 3) l.initial.numbers l.numbers l.moved l.i

@@ -5,16 +5,13 @@ use lib.ListN.{length-replicate, get_or-replicate}
 use Rattle.journal_clear.proofs.Passes.{start, turn_back, finish}
 use Rattle.journal_clear.proofs.pass.Goals as goal
 
-pub loop-passed-init : goal.loop-passed-init
-loop-passed-init c = (omega arith, start _ _ _ _ _ _ (length-replicate {A = ℕ} 16384 0) (λ k m. get_or-replicate {A = ℕ} 16384 k 0 0 m))
+pub loop-i-init : goal.loop-i-init
+loop-i-init c = start _ _ _ _ _ _ (length-replicate {A = ℕ} 16384 0) (λ k m. get_or-replicate {A = ℕ} 16384 k 0 0 m)
 
-pub turn-next-requires : goal.turn-next-requires
-turn-next-requires c = let g = c.loop-passed.invariant.1 in (omega (arith, g.same_length), g.table_length, c.requires.1)
-
-pub loop-passed-preserved : goal.loop-passed-preserved
-loop-passed-preserved c =
+pub loop-i-preserved : goal.loop-i-preserved
+loop-i-preserved c =
     let t = c.turn-next in
-    (omega arith, turn_back _ _ _ _ _ _ _ _ _ (omega arith) c.requires.0 c.loop-passed.invariant.1 _ _ _ t.auto.seen t.ensures)
+    turn_back _ _ _ _ _ _ _ _ _ (omega arith) (omega arith) c.loop-i.invariant _ _ _ t.auto.seen t.ensures
 
 pub returns : goal.returns
-returns c = finish _ _ _ _ _ _ _ _ _ (omega arith) c.loop-passed.invariant.1
+returns c = finish _ _ _ _ _ _ _ _ c.loop-i.i (omega arith) c.loop-i.invariant
