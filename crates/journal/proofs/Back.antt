@@ -11,7 +11,7 @@ use Rattle.std.proofs.Common.{reverse, get_or, Bool, sym}
 use Rattle.std.proofs.lemmas.List.{reverse-reverse, reverse-append}
 use Rattle.lists.proofs.Those.{map_append}
 use Rattle.journal.specs.Found.{found}
-use Rattle.journal.specs.Stored.{entry_of, entries_in}
+use Rattle.journal.specs.Stored.{entry_in, entries_in}
 use lib.Dec.{leb, eqb}
 use lib.ListN.{drop}
 use lib.Seq.{get_or-drop}
@@ -92,19 +92,19 @@ module _ (p T : ℕ) where
 
   -- the same search along the reversed list
   found_ahead : (xs : List (List ℕ)) → Rising 0 (readings_at (entries_in (reverse xs)) p)
-      → found (option_map entry_of (find shows xs)) ≡ shown T (readings_at (entries_in (reverse xs)) p)
+      → found (option_map entry_in (find shows xs)) ≡ shown T (readings_at (entries_in (reverse xs)) p)
   found_ahead [] h = sym (shown_nil T)
   found_ahead (x ∷ xs) h =
       let es = entries_in (reverse xs) in
-      let s : entries_in (reverse (x ∷ xs)) ≡ es ++ (entry_of x ∷ []) = rw (reverse-append (x ∷ []) xs) (map_append entry_of (reverse xs) (x ∷ [])) in
+      let s : entries_in (reverse (x ∷ xs)) ≡ es ++ (entry_in x ∷ []) = rw (reverse-append (x ∷ []) xs) (map_append entry_in (reverse xs) (x ∷ [])) in
       by_test (shows x)
-      (λ t. rw (s, t) (sym (last_shows T p es (entry_of x) (rw s at h) t)))
+      (λ t. rw (s, t) (sym (last_shows T p es (entry_in x) (rw s at h) t)))
       (λ f.
-      let front : Rising 0 (readings_at es p) = rising_front 0 (readings_at es p) (readings_at (entry_of x ∷ []) p) (rw (s, readings_append es (entry_of x ∷ []) p) at h) in
-      rw (s, f) (found_ahead xs front ∙ sym (last_misses T p es (entry_of x) f)))
+      let front : Rising 0 (readings_at es p) = rising_front 0 (readings_at es p) (readings_at (entry_in x ∷ []) p) (rw (s, readings_append es (entry_in x ∷ []) p) at h) in
+      rw (s, f) (found_ahead xs front ∙ sym (last_misses T p es (entry_in x) f)))
 
   pub found_back : (xs : List (List ℕ)) → Right (entries_in xs)
-      → found (option_map entry_of (find shows (reverse xs))) ≡ shown T (readings_at (entries_in xs) p)
+      → found (option_map entry_in (find shows (reverse xs))) ≡ shown T (readings_at (entries_in xs) p)
   found_back xs r =
       let rising : Rising 0 (readings_at (entries_in xs) p) = right_rising r.points r.all.keptday r.all.last p 0 0 (omega arith) (entries_in xs) r.all.right in
       let e : reverse (reverse xs) ≡ xs = reverse-reverse xs in

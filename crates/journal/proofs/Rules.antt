@@ -15,7 +15,7 @@ use Rattle.calendar.specs.Quarters.{quarter_exists}
 use Rattle.journal.specs.Value.{stored_right}
 use Rattle.journal.specs.declared.Entry.{Entry}
 use Rattle.journal.specs.Entries.{point_in, day_in, quarter_in, point_places}
-use Rattle.journal.specs.Stored.{entry_of, entries_in}
+use Rattle.journal.specs.Stored.{entry_in, entries_in}
 use Rattle.journal.specs.Damage.{entry_right, entries_right}
 
 -- ---- one entry
@@ -79,4 +79,4 @@ module _ (points K last before : ℕ) (xs : List (List ℕ)) where
   unfolding entries_right
   next_left i stamp place stored h s p m =
       let e : drop i xs ≡ get_or xs i [] ∷ drop (i + 1) xs = rw add-one (drop-cons xs i [] h) in
-      rw (e, s, p, m, entry_tests points K (entry_of (get_or xs i [])))
+      rw (e, s, p, m, entry_tests points K (entry_in (get_or xs i [])))

@@ -7,12 +7,12 @@ abbrev pub entry_at : List ℕ → ℕ → Entry
 entry_at j i = record { stamp = get_or j (3 * i) 0; place = get_or j (3 * i + 1) 0; stored = get_or j (3 * i + 2) 0 }
 
 -- the entry of three numbers
-abbrev pub entry_of : List ℕ → Entry
-entry_of numbers = record { stamp = get_or numbers 0 0; place = get_or numbers 1 0; stored = get_or numbers 2 0 }
+abbrev pub entry_in : List ℕ → Entry
+entry_in numbers = record { stamp = get_or numbers 0 0; place = get_or numbers 1 0; stored = get_or numbers 2 0 }
 
 -- the entries of a list in which each stands as its three numbers
 abbrev pub entries_in : List (List ℕ) → List Entry
-entries_in lists = map entry_of lists
+entries_in lists = map entry_in lists
 
 -- the first n entries of a journal
 unfoldable pub entries : ℕ → List ℕ → List Entry

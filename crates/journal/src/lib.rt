@@ -9,7 +9,7 @@ ghost use Rattle.calendar.specs.Dates.{last_day};
 ghost use Rattle.calendar.specs.Quarters.{quarter_exists};
 ghost use Rattle.journal.specs.Readings.{shown};
 ghost use Rattle.journal.specs.Entries.{point_places, place_of, readings_at};
-ghost use Rattle.journal.specs.Stored.{entry_of, entries_in, entries, numbers};
+ghost use Rattle.journal.specs.Stored.{entry_in, entries_in, entries, numbers};
 ghost use Rattle.journal.specs.Damage.{entry_right, entries_right, Right};
 ghost use Rattle.journal.specs.Value.{stored_right};
 ghost use Rattle.journal.specs.Found.{found};
@@ -30,7 +30,7 @@ pub struct Entry {
 
 // An entry from its three numbers.
 impl From<[u64; 3]> for Entry {
-    ghost from_gives = { λ numbers entry. entry ≡ entry_of numbers };
+    ghost from_gives = { λ numbers entry. entry ≡ entry_in numbers };
 
     fn from(numbers: [u64; 3]) -> Entry {
         let [stamp, place, stored] = numbers;
@@ -61,7 +61,7 @@ pub fn place(point: u64, day: u64, quarter: u64) -> u64
 
 // The last entry for a place with a stamp up to `until`.
 fn last(entries: &[[u64; 3]], place: u64, until: u64) -> Option<Entry>
-    ensures { result ≡ option_map entry_of (find (λ numbers. eqb (get_or numbers 1 0) place && leb (get_or numbers 0 0) until) (reverse entries.now)) }
+    ensures { result ≡ option_map entry_in (find (λ numbers. eqb (get_or numbers 1 0) place && leb (get_or numbers 0 0) until) (reverse entries.now)) }
 {
     entries
         .iter()
