@@ -5,7 +5,7 @@ use mathlib.Core.Path.{◌≡◌, refl, sym, ap, subst, ◌∙◌}
 use mathlib.Core.Bool.{true, false}
 use mathlib.Core.Logic.{◌≢◌}
 use mathlib.Core.List.{List}
-use Rattle.answers.specs.declared.Verdict.TheVariants.{Refused}
+use Rattle.std.specs.Prelude.{Err}
 use Rattle.answers.specs.declared.Refusal.TheVariants.{Damaged}
 use Rattle.calendar.specs.Quarters.{quarter_exists}
 use Rattle.registration.specs.declared.Registration.{Registration}
@@ -87,5 +87,5 @@ demand3 r h journal calls =
       each = Lists.all_right look next refused book_after RightByBook (Joint r) (right_at r) (joint_at r) calls both (new_book r) joint;
       pairs = same_result r h journal calls;
       undamaged = Lists.each_call look next refused book_after RightByBook (Joint r) (right_at r) (joint_at r)
-          (λ call a. a.verdict ≢ Refused Damaged) (undamaged_at r) calls both (new_book r) joint;
+          (λ call a. a.verdict ≢ Err Damaged) (undamaged_at r) calls both (new_book r) joint;
     }

@@ -5,7 +5,7 @@ use mathlib.Core.Bool.{false}
 use mathlib.Core.Logic.{◌≢◌}
 use mathlib.Core.List.{List}
 use lib.ListN.{length}
-use Rattle.answers.specs.declared.Verdict.TheVariants.{Refused}
+use Rattle.std.specs.Prelude.{Err}
 use Rattle.answers.specs.declared.Refusal.TheVariants.{Damaged}
 use Rattle.registration.specs.declared.Registration.{Registration}
 use Rattle.registration.specs.Damage.{is_damaged}
@@ -64,5 +64,5 @@ module _ (r : Registration) (both : RecordAndJournal) (book : Book) (joint : Joi
       }
 
   -- no call is refused by 15
-  pub undamaged_at : (look both call).verdict ≢ Refused Damaged
+  pub undamaged_at : (look both call).verdict ≢ Err Damaged
   undamaged_at = rw (seen_at both call) fine_at.undamaged

@@ -6,8 +6,8 @@ use mathlib.Core.Bool.{true, false, true≢false}
 use mathlib.Core.Logic.{◌≢◌}
 use mathlib.Core.List.{List, []}
 use Rattle.values.specs.declared.Measurement.{Measurement}
-use Rattle.answers.specs.declared.Verdict.{Verdict}
-use Rattle.answers.specs.declared.Verdict.TheVariants.{Accepted, Refused}
+use Rattle.answers.specs.Numbers.{Verdict}
+use Rattle.std.specs.Prelude.{Ok, Err}
 use Rattle.answers.specs.declared.Refusal.TheVariants.{Damaged}
 use Rattle.calendar.specs.Quarters.{quarter_exists}
 use Rattle.group.specs.Group.{Group}
@@ -30,14 +30,14 @@ pub record Fine (book : Book) (call : Call) (after : After) : Type 0 where
   pub right : refused after.seen ≡ false → RightByBook book call after.seen
   pub last_same : after.last ≡ (book_after book call (refused after.seen)).last
   pub related : Related after.last after.group (book_after book call (refused after.seen)).page
-  pub undamaged : after.seen.verdict ≢ Refused Damaged
+  pub undamaged : after.seen.verdict ≢ Err Damaged
 
 -- a refused call leaves group and book as they were
 fine_when_accepted : (book : Book) (G : Group) (call : Call) (lent : List ℕ) (verdict : Verdict) (after : After) → Related book.last G book.page
-    → verdict ≢ Refused Damaged → (verdict ≡ Accepted → Fine book call after) → Fine book call (when_accepted verdict book.last G lent after)
+    → verdict ≢ Err Damaged → (verdict ≡ Ok tt → Fine book call after) → Fine book call (when_accepted verdict book.last G lent after)
 unfolding book_after
-fine_when_accepted book G call lent Accepted after rel h f = f refl
-fine_when_accepted book G call lent (Refused refusal) after rel h f =
+fine_when_accepted book G call lent (Ok _) after rel h f = f refl
+fine_when_accepted book G call lent (Err refusal) after rel h f =
     record { right = λ e. absurd (true≢false e); last_same = refl; related = rel; undamaged = h }
 
 module _ (book : Book) (G : Group) (rel : Related book.last G book.page) where
@@ -50,7 +50,7 @@ module _ (book : Book) (G : Group) (rel : Related book.last G book.page) where
   none = undamaged last G rel.sound
 
   -- an accepted submission, clear and evaluation
-  fine_submission : (clock : ℕ) (m : Measurement) → submission_verdict last G clock m ≡ Accepted
+  fine_submission : (clock : ℕ) (m : Measurement) → submission_verdict last G clock m ≡ Ok tt
       → Fine book (Submission clock m) (submitted last G clock m)
   unfolding book_after
   fine_submission clock m e =
@@ -63,7 +63,7 @@ module _ (book : Book) (G : Group) (rel : Related book.last G book.page) where
         undamaged = rw v (λ f. let z : ◌≡◌ {A = ℕ} 0 1 = cc in omega arith);
       }
 
-  fine_clear : (day stamp : ℕ) → clear_verdict last G day stamp ≡ Accepted → Fine book (Clear day stamp) (cleared last G day stamp)
+  fine_clear : (day stamp : ℕ) → clear_verdict last G day stamp ≡ Ok tt → Fine book (Clear day stamp) (cleared last G day stamp)
   unfolding book_after cleared
   fine_clear day stamp e =
       record {
@@ -73,7 +73,7 @@ module _ (book : Book) (G : Group) (rel : Related book.last G book.page) where
         undamaged = λ f. let z : ◌≡◌ {A = ℕ} 0 1 = cc in omega arith;
       }
 
-  fine_evaluation : (day quarter T : ℕ) (lent : List ℕ) → evaluation_verdict last G day quarter T lent ≡ Accepted
+  fine_evaluation : (day quarter T : ℕ) (lent : List ℕ) → evaluation_verdict last G day quarter T lent ≡ Ok tt
       → Fine book (Evaluation day quarter T lent) (evaluated last G day quarter T lent)
   unfolding book_after evaluated
   fine_evaluation day quarter T lent e =

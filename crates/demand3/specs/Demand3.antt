@@ -1,6 +1,6 @@
 -- Demand 3: one claim about every list of calls on a fresh service. Its proof stands in proofs/Demand3.antt. Assumes nothing.
 use Rattle.std.specs.Prelude.{ℕ, ◌≡◌, false, List, ◌≢◌}
-use Rattle.answers.specs.declared.Verdict.TheVariants.{Refused}
+use Rattle.std.specs.Prelude.{Err}
 use Rattle.answers.specs.declared.Refusal.TheVariants.{Damaged}
 use Rattle.registration.specs.declared.Registration.{Registration}
 use Rattle.registration.specs.Damage.{is_damaged}
@@ -57,7 +57,7 @@ pub record Demand3 (r : Registration) (journal : List ℕ) (calls : List Call) :
       → Made calls (seen_of r journal calls) i (Evaluation day quarter T lent) a → refused a ≡ false
       → Made calls (seen_of r journal calls) k (Evaluation day quarter T lent') b → refused b ≡ false
       → SameResult r a b
-  pub undamaged : (i : ℕ) (call : Call) (a : Seen) → Made calls (seen_of r journal calls) i call a → a.verdict ≢ Refused Damaged
+  pub undamaged : (i : ℕ) (call : Call) (a : Seen) → Made calls (seen_of r journal calls) i call a → a.verdict ≢ Err Damaged
 
 -- the claim
 abbrev pub Demand3Holds : Type 0

@@ -10,7 +10,7 @@ use lib.ListN.{length}
 use borrow.Author.Tests.{ltb-true, ltb-false, leb-true, eqb-false, not-false}
 use Rattle.calendar.specs.Dates.{last_day}
 use Rattle.values.specs.Values.{magnitude_most}
-use Rattle.answers.specs.declared.Verdict.TheVariants.{Accepted}
+use Rattle.std.specs.Prelude.{Ok}
 use Rattle.answers.proofs.Refusals.{passed}
 use Rattle.values.specs.declared.Measurement.{Measurement}
 use Rattle.calendar.specs.Quarters.{quarter_exists}
@@ -33,7 +33,7 @@ module _ (last : ℕ) (G : Group) (clock : ℕ) (m : Measurement) where
     pub last_less : last ≢ stamp_most
     pub room : repeats last G m ≡ false → 3 * (length G.entries + 1) ≤ G.room
 
-  pub admitted : submission_verdict last G clock m ≡ Accepted → Admitted
+  pub admitted : submission_verdict last G clock m ≡ Ok tt → Admitted
   unfolding submission_verdict
   admitted h =
       let a = passed _ _ _ h in
@@ -65,7 +65,7 @@ module _ (last : ℕ) (G : Group) (day stamp : ℕ) where
     pub from : G.keptstamp ≤ stamp
     pub to : stamp ≤ last
 
-  pub clearing : clear_verdict last G day stamp ≡ Accepted → Clearing
+  pub clearing : clear_verdict last G day stamp ≡ Ok tt → Clearing
   unfolding clear_verdict
   clearing h =
       let a = passed _ _ _ h in
@@ -91,7 +91,7 @@ module _ (last : ℕ) (G : Group) (day quarter T : ℕ) (lent : List ℕ) where
     pub to : T ≤ last
     pub long : size_of G.registration ≤ length lent
 
-  pub evaluating : evaluation_verdict last G day quarter T lent ≡ Accepted → Evaluating
+  pub evaluating : evaluation_verdict last G day quarter T lent ≡ Ok tt → Evaluating
   unfolding evaluation_verdict
   evaluating h =
       let a = passed _ _ _ h in

@@ -3,8 +3,8 @@ use Prim.Native.Nat.{ℕ}
 use mathlib.Core.Path.{◌≡◌, refl}
 use mathlib.Core.List.{[], ◌∷◌}
 use Rattle.lists.specs.Below.{every, sum_below, differ}
-use Rattle.answers.specs.declared.Verdict.{Verdict}
-use Rattle.answers.specs.declared.Verdict.TheVariants.{Accepted, Refused}
+use Rattle.answers.specs.Numbers.{Verdict}
+use Rattle.std.specs.Prelude.{Ok, Err}
 use Rattle.answers.specs.declared.Refusal.TheVariants.{NoSuchDay, DayCleared, StampOutside}
 use Rattle.answers.specs.Order.{refuse◌if◌else◌}
 use Rattle.registration.specs.Code.{is_code, weighted}
@@ -40,15 +40,15 @@ clear day stamp = clear_verdict 80 group day stamp
 
 -- a stamp below P, equal to P, between, equal to the last stamp, above it; a day below K; a day above K with stamp 0; the last day, and one beyond the
 -- calendar; and a day below K with a stamp below P
-clears : (clear 100 49 ≡ Refused StampOutside)
-    × (clear 100 50 ≡ Accepted)
-    × (clear 100 51 ≡ Accepted)
-    × (clear 100 80 ≡ Accepted)
-    × (clear 100 81 ≡ Refused StampOutside)
-    × (clear 99 50 ≡ Refused DayCleared)
-    × (clear 101 0 ≡ Refused StampOutside)
-    × (clear 27758 80 ≡ Accepted)
-    × (clear 27759 80 ≡ Refused NoSuchDay)
-    × (clear 99 49 ≡ Refused DayCleared)
+clears : (clear 100 49 ≡ Err StampOutside)
+    × (clear 100 50 ≡ Ok tt)
+    × (clear 100 51 ≡ Ok tt)
+    × (clear 100 80 ≡ Ok tt)
+    × (clear 100 81 ≡ Err StampOutside)
+    × (clear 99 50 ≡ Err DayCleared)
+    × (clear 101 0 ≡ Err StampOutside)
+    × (clear 27758 80 ≡ Ok tt)
+    × (clear 27759 80 ≡ Err NoSuchDay)
+    × (clear 99 49 ≡ Err DayCleared)
 unfolding group clear_verdict damaged is_damaged every sum_below differ pairs_right is_code weighted entries_right refuse◌if◌else◌
 clears = (refl, refl, refl, refl, refl, refl, refl, refl, refl, refl)

@@ -3,6 +3,5 @@ pub mod Undamaged
 pub mod Admitted
 pub mod Laws
 pub mod Cases
-pub mod Verdicts
-pub mod Looking
 pub mod Told
+pub mod Looking

@@ -1,113 +1,106 @@
--- What is looked up for a submission: zeros where it is refused, and by the reading shown where it passes all tests but the last. Assumes nothing.
-use Prim.Native.Nat.{ℕ, ◌*◌, ◌-◌, ◌≤◌, ◌<◌}
-use mathlib.Core.Path.{◌≡◌, refl, sym}
-use mathlib.Core.Bool.{true, false, not, ◌&&◌}
-use Rattle.std.specs.Prelude.{Option}
-use native.Mathlib.Omega.{arith}
-use lib.ListN.{length}
-use borrow.Author.Tests.{lt-ltb, le-ltb, eq-eqb, ne_eqb}
-use Rattle.answers.specs.declared.Refusal.{Refusal}
-use Rattle.answers.specs.declared.Refusal.TheVariants.{JournalFull}
-use Rattle.answers.specs.declared.Verdict.TheVariants.{Accepted, Refused}
-use Rattle.lists.proofs.Cases.{by_test}
+-- What the tests of a submission rest on: what holds of a group that is not damaged. Assumes nothing.
+use Rattle.std.proofs.Common.{ℕ, ◌*◌, ◌-◌, ◌≤◌, ◌<◌, ◌≡◌, true, false, not, ◌&&◌, leb, eqb, List, length, nat_abs, Ok, Err, None, Some, arith}
+use borrow.Author.Tests.{eq-eqb, ne_eqb}
+use Rattle.std.proofs.lemmas.Grind.{common_steps}
+use Rattle.answers.specs.declared.Refusal.TheVariants.{ValueWrong, ClockOutside, JournalFull}
+use Rattle.answers.specs.Numbers.{with_value}
+use Rattle.answers.proofs.Refusals.{order}
+use Rattle.values.specs.Values.{magnitude_most}
 use Rattle.values.specs.declared.Measurement.{Measurement}
-use Rattle.journal.specs.declared.Found.{Found}
-use Rattle.journal.specs.declared.Found.TheVariants.{Shown, Nothing}
-use Rattle.journal.specs.Value.{value_in, value_of, stored_of}
-use Rattle.journal.specs.Order.{Reading}
-use Rattle.journal.specs.Readings.{shown}
-use Rattle.journal.specs.Entries.{readings_at}
-use Rattle.journal.specs.Found.{found}
-use Rattle.group.specs.declared.Looked.{Looked}
+use Rattle.points.specs.Points.{index_of, has, sign_suits}
 use Rattle.lists.proofs.TableLaws.{length_table}
+use Rattle.calendar.specs.Dates.{last_day}
+use Rattle.calendar.specs.Quarters.{quarter_exists}
+use Rattle.calendar.proofs.Laws.{exists_day, exists_quarter}
 use Rattle.registration.specs.declared.Registration.{Registration}
-use Rattle.registration.specs.Rules.{points, code_at}
-use Rattle.points.specs.Points.{codes_of, index_of, has}
-use Rattle.group.specs.Group.{Group, place_for, readings_for}
-use Rattle.group.specs.Refusals.{repeats, full, submission_verdict}
-use Rattle.group.specs.Stamps.{next_stamp}
-use Rattle.group.specs.Working.{refused_look, new_look, settled, Looks}
+use Rattle.journal.specs.Value.{value_in}
+use Rattle.journal.specs.Readings.{shown}
+use Rattle.journal.proofs.Stored.{length_entries}
+use Rattle.group.specs.declared.Looked.TheVariants.{Repeat, New}
+use Rattle.group.specs.Working.{looked_of}
+use Rattle.group.specs.declared.Numbers.{Numbers}
+use Rattle.group.specs.Group.{Group, roll_of, place_for, readings_for}
+use Rattle.group.specs.Held.{group_in}
+use Rattle.group.specs.Refusals.{damaged, repeats, full, submission_verdict}
+use Rattle.group.specs.Stamps.{stamp_most, next_stamp}
+use Rattle.group.proofs.Sound.{undamaged_sound}
+use Rattle.group.proofs.Undamaged.{few_of, fits_of}
 
-pub never_accepted : {A : Type 0} (refusal : Refusal) → Refused refusal ≡ Accepted → A
-never_accepted refusal e = let z : ◌≡◌ {A = ℕ} 0 1 = cc in absurd (omega arith)
+-- a quarter that exists is one of the hundred
+pub first_quarter : (day quarter : ℕ) → quarter_exists day quarter ≡ true → 1 ≤ quarter
+first_quarter day quarter e = (exists_quarter day quarter e).0
 
--- ---- a code, by the number that the search for it found
-module _ (r : Registration) (code point : ℕ) (e : point ≡ index_of code (codes_of r)) where
-  pub in_group : point < points r → has code (codes_of r) ≡ true
-  in_group h = rw (← e, length_table (code_at r) (points r)) (lt-ltb point (points r) h)
+pub last_quarter : (day quarter : ℕ) → quarter_exists day quarter ≡ true → quarter ≤ 100
+last_quarter day quarter e = (exists_quarter day quarter e).1
 
-  pub not_in_group : points r ≤ point → has code (codes_of r) ≡ false
-  not_in_group h = rw (← e, length_table (code_at r) (points r)) (le-ltb point (points r) h)
+-- where a group is not damaged its entries fit into the journal, and its last stamp is one
+pub fits : (last : ℕ) (r : Registration) (numbers : Numbers) (j : List ℕ) → damaged last (group_in r numbers j) ≡ false → 3 * numbers.entries ≤ length j
+fits last r numbers j e = fits_of r numbers j (undamaged_sound last (group_in r numbers j) e)
 
--- ---- a new entry, by whether three numbers are left
-module _ (left clock last place stored : ℕ) where
-  pub new_refused : (r : Looked) → left < 3 → r ≡ refused_look JournalFull → r ≡ new_look left clock last place stored
-  new_refused r h e = rw (lt-ltb left 3 h) e
+pub last_most : (last : ℕ) (G : Group) → damaged last G ≡ false → last ≤ stamp_most
+last_most last G e = (undamaged_sound last G e).last_stamp
 
-  pub new_accepted : (stamp : ℕ) → 3 ≤ left → stamp ≡ next_stamp clock last
-      → ◌≡◌ {A = Looked} (record { verdict = Accepted; repeat = false; stamp = stamp; place = place; stored = stored }) (new_look left clock last place stored)
-  new_accepted stamp h e = rw (le-ltb left 3 h, e)
+pub ruleset looking = (length_table, length_entries, few_of, exists_day, first_quarter, last_quarter, fits, last_most)
 
--- ---- by what the search found
-module _ (old : Found) (stored left clock last place : ℕ) where
-  pub settled_none : (r : Looked) → old ≡ Nothing → r ≡ new_look left clock last place stored
-      → r ≡ settled (found old) (value_in stored) left clock last place
-  settled_none r e n = rw e n
+-- a measurement past the tests of group, code, quarter hour and day
+pub record Known (last : ℕ) (G : Group) (m : Measurement) : Type 0 where
+  pub undamaged : damaged last G ≡ false
+  pub known : has m.code (roll_of G) ≡ true
+  pub exists : quarter_exists m.day m.quarter ≡ true
+  pub not_cleared : G.keptday ≤ m.day
 
-  module _ (stamp before : ℕ) (e : old ≡ Shown stamp before) where
-    pub settled_repeat : before ≡ stored
-        → ◌≡◌ {A = Looked} (record { verdict = Accepted; repeat = true; stamp = stamp; place = place; stored = stored })
-        (settled (found old) (value_in stored) left clock last place)
-    settled_repeat q = rw (e, eq-eqb before stored q)
+-- a submission of it past the tests of its value and of the stamps
+pub record Suiting (last : ℕ) (G : Group) (clock : ℕ) (m : Measurement) : Type 0 where
+  pub known : Known last G m
+  pub value : (sign_suits G.registration.producers (index_of m.code (roll_of G)) m.value && leb (nat_abs m.value) magnitude_most) ≡ true
+  pub stamps : (leb clock stamp_most && not (eqb last stamp_most)) ≡ true
 
-    pub settled_other : (r : Looked) → (before ≡ stored → ⊥) → r ≡ new_look left clock last place stored
-        → r ≡ settled (found old) (value_in stored) left clock last place
-    settled_other r q n = rw (e, ne_eqb before stored q) n
+-- what does not suit is refused
+module _ (last : ℕ) (G : Group) (clock : ℕ) (m : Measurement) (k : Known last G m) where
+  pub wrong_value : (sign_suits G.registration.producers (index_of m.code (roll_of G)) m.value && leb (nat_abs m.value) magnitude_most) ≡ false
+      → submission_verdict last G clock m ≡ Err ValueWrong
+  unfolding submission_verdict
+  wrong_value e = grind (arith, common_steps, order)
 
-module _ (last : ℕ) (G : Group) (clock : ℕ) (m : Measurement) where
-  -- nothing is looked up for a refused submission
-  pub looks_refused : (refusal : Refusal) (r : Looked) → Refused refusal ≡ submission_verdict last G clock m → r ≡ refused_look refusal
-      → Looks last G clock m r
-  looks_refused refusal r e q =
-      rw q (record {
-        verdict = e;
-        zero = λ other a. refl;
-        stamp = λ a. never_accepted refusal a;
-        repeat = λ a. never_accepted refusal a;
-        place = λ a. never_accepted refusal a;
-        stored = λ a. never_accepted refusal a;
-      })
+  pub wrong_clock : (sign_suits G.registration.producers (index_of m.code (roll_of G)) m.value && leb (nat_abs m.value) magnitude_most) ≡ true
+      → (leb clock stamp_most && not (eqb last stamp_most)) ≡ false → submission_verdict last G clock m ≡ Err ClockOutside
+  unfolding submission_verdict
+  wrong_clock e f = grind (arith, common_steps, order)
 
-  -- the verdict past all tests but the last
-  module _ (full_verdict : not (repeats last G m) && full G ≡ true → Refused JournalFull ≡ submission_verdict last G clock m)
-      (accepted_verdict : not (repeats last G m) && full G ≡ false → Accepted ≡ submission_verdict last G clock m) where
-    pub looks_settled : Looks last G clock m
-        (settled (shown last (readings_for G m)) (value_of m) (G.room - 3 * length G.entries) clock last (place_for G m.code m.day m.quarter))
-    looks_settled =
-        by_test (repeats last G m)
-        (λ t.
-        rw t (record {
-          verdict = accepted_verdict (rw t);
-          zero = λ refusal a. never_accepted refusal (sym a);
-          stamp = λ a. rw t;
-          repeat = λ a. sym t;
-          place = λ a. refl;
-          stored = λ a. refl;
-        }))
-        (λ t.
-        by_test (full G)
-        (λ u. rw (t, u) (looks_refused JournalFull _ (full_verdict (rw (t, u))) refl))
-        (λ u. rw (t, u) (record {
-          verdict = accepted_verdict (rw (t, u));
-          zero = λ refusal a. never_accepted refusal (sym a);
-          stamp = λ a. rw t;
-          repeat = λ a. sym t;
-          place = λ a. refl;
-          stored = λ a. refl;
-        })))
+-- a submission whose reading is not shown yet, or with another value, is no repeat
+module _ (last : ℕ) (G : Group) (m : Measurement) where
+  pub none_shown : None ≡ shown last (readings_for G m) → repeats last G m ≡ false
+  none_shown e = rw (← e)
 
-    -- the same of what the search found
-    pub looks_found : (r : Looked) (old : Option Reading) (stored left place : ℕ) → r ≡ settled old (value_in stored) left clock last place
-        → old ≡ shown last (readings_at G.entries place) → stored ≡ stored_of (value_of m) → left ≡ G.room - 3 * length G.entries
-        → place ≡ place_for G m.code m.day m.quarter → Looks last G clock m r
-    looks_found r old stored left place e o v l p = rw (e, v, o, l, p) looks_settled
+  pub other_shown : (stamp stored : ℕ) → Some (record { stamp = stamp; value = value_in stored }) ≡ shown last (readings_for G m)
+      → (stored ≡ nat_abs m.value → ⊥) → repeats last G m ≡ false
+  other_shown stamp stored e n = rw (← e) (ne_eqb stored (nat_abs m.value) n)
+
+-- past all tests but the last a submission is a repeat, refused for lack of room, or a new entry
+module _ (last : ℕ) (G : Group) (clock : ℕ) (m : Measurement) (k : Suiting last G clock m) where
+  repeated : repeats last G m ≡ true → submission_verdict last G clock m ≡ Ok tt
+  unfolding submission_verdict
+  repeated e = grind (arith, common_steps, order)
+
+  pub look_repeats : (stamp stored : ℕ) → Some (record { stamp = stamp; value = value_in stored }) ≡ shown last (readings_for G m)
+      → stored ≡ nat_abs m.value → Ok (Repeat stamp) ≡ with_value (submission_verdict last G clock m) (looked_of last G clock m)
+  look_repeats stamp stored e v =
+      let r : repeats last G m ≡ true = rw (← e) (eq-eqb stored (nat_abs m.value) v) in
+      rw (repeated r, ← e, eq-eqb stored (nat_abs m.value) v)
+
+  module _ (n : repeats last G m ≡ false) where
+    no_room : full G ≡ true → submission_verdict last G clock m ≡ Err JournalFull
+    unfolding submission_verdict
+    no_room h = grind (arith, common_steps, order)
+
+    has_room : full G ≡ false → submission_verdict last G clock m ≡ Ok tt
+    unfolding submission_verdict
+    has_room h = grind (arith, common_steps, order)
+
+    pub look_full : full G ≡ true → Err JournalFull ≡ with_value (submission_verdict last G clock m) (looked_of last G clock m)
+    look_full h = rw (no_room h)
+
+    pub look_new : full G ≡ false → (stamp place stored : ℕ) → stamp ≡ next_stamp clock last
+        → place ≡ place_for G m.code m.day m.quarter → stored ≡ nat_abs m.value
+        → Ok (New stamp place stored) ≡ with_value (submission_verdict last G clock m) (looked_of last G clock m)
+    look_new h stamp place stored s p v = rw (has_room h, n, s, p, v)

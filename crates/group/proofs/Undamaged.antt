@@ -6,6 +6,12 @@ use native.Mathlib.Omega.{arith}
 use mathlib.Core.List.{List}
 use lib.ListN.{length}
 use borrow.Author.Tests.{le-ltb}
+use lib.Dec.{leb, ltb}
+use Rattle.std.specs.Prelude.{◌&&◌, Result, Err}
+use Rattle.std.proofs.lemmas.Grind.{common_steps}
+use Rattle.answers.specs.declared.Refusal.{Refusal}
+use Rattle.answers.specs.Order.{refuse◌if◌else◌}
+use Rattle.answers.proofs.Refusals.{order}
 use Rattle.calendar.specs.Dates.{last_day}
 use Rattle.lists.proofs.TableLaws.{length_table}
 use Rattle.registration.specs.declared.Registration.{Registration}
@@ -41,6 +47,27 @@ damaged_entries last G a b c d e right r =
       length_table (code_at G.registration) (points G.registration),
       ← r,
     )
+
+-- a registration that is not damaged has at most 64 points
+pub few : (r : Registration) → is_damaged r ≡ false → points r ≤ 64
+few r e = (point_bounds _ _ (undamaged_parts r e).point_counts).2
+
+-- a stamp outside of what can be shown, and one within
+module _ {T : Type 0} (n : Refusal) (p s l : ℕ) (m : Result T Refusal) where
+  pub outside : (leb p s && leb s l) ≡ false → refuse n if ltb s p else refuse n if ltb l s else m ≡ Err n
+  unfolding refuse◌if◌else◌
+  outside e = grind (arith, common_steps, order)
+
+  pub inside : (leb p s && leb s l) ≡ true → refuse n if ltb s p else refuse n if ltb l s else m ≡ m
+  unfolding refuse◌if◌else◌
+  inside e = grind (arith, common_steps, order)
+
+-- a group that is not damaged has a kept day of the calendar, and at most 64 points
+pub kept_day_most : (last : ℕ) (G : Group) → damaged last G ≡ false → G.keptday ≤ last_day
+kept_day_most last G e = (undamaged_sound last G e).kept_day
+
+pub few_of : (last : ℕ) (G : Group) → damaged last G ≡ false → points G.registration ≤ 64
+few_of last G e = few G.registration (undamaged_sound last G e).registered
 
 -- a sound group has at most 64 points
 pub few_points : (last : ℕ) (G : Group) → Sound last G → points G.registration ≤ 64

@@ -3,6 +3,7 @@ use Rattle.std.specs.Prelude.{ℕ, List, length}
 use Rattle.registration.specs.declared.Registration.{Registration}
 use Rattle.journal.specs.Stored.{entries}
 use Rattle.group.specs.declared.Numbers.{Numbers}
+use Rattle.group.specs.declared.Group.{Group as Held}
 use Rattle.group.specs.Group.{Group}
 
 -- the group that a registration, its numbers and a journal hold
@@ -15,6 +16,10 @@ group_in r numbers j =
       entries = entries numbers.entries j;
       room = length j;
     }
+
+-- the same of the code's struct
+abbrev pub held : Held → Group
+held group = group_in group.registration.now group.numbers group.journal.now
 
 -- the numbers of a group
 abbrev pub numbers_of : Group → Numbers

@@ -1,8 +1,8 @@
 -- The refusals of submission, clear and evaluation, each in the paper's order. Assumes nothing.
 use Rattle.std.specs.Prelude.{ℕ, zero, suc, ◌+◌, ◌*◌, ◌-◌, Bool, not, ◌&&◌, ◌||◌, List, nat_abs, ltb, eqb, length}
 use Rattle.values.specs.Values.{magnitude_most}
-use Rattle.answers.specs.declared.Verdict.{Verdict}
-use Rattle.answers.specs.declared.Verdict.TheVariants.{Accepted}
+use Rattle.answers.specs.Numbers.{Verdict}
+use Rattle.std.specs.Prelude.{Ok}
 use Rattle.answers.specs.declared.Refusal.TheVariants.{CodeNotInGroup, NoSuchDay, ValueWrong, DayCleared, StampOutside, ClockOutside, JournalFull, Damaged, TooShort}
 use Rattle.answers.specs.Order.{refuse◌if◌else◌}
 use Rattle.calendar.specs.Dates.{last_day, is_day}
@@ -44,7 +44,7 @@ submission_verdict last G clock m =
     refuse ClockOutside if ltb stamp_most clock else
     refuse ClockOutside if eqb last stamp_most else
     refuse JournalFull if not (repeats last G m) && full G else
-    Accepted
+    Ok tt
 
 -- a clear: 15, 9, 11, 12
 unfoldable pub clear_verdict : (last : ℕ) → Group → (day stamp : ℕ) → Verdict
@@ -54,7 +54,7 @@ clear_verdict last G day stamp =
     refuse DayCleared if ltb day G.keptday else
     refuse StampOutside if ltb stamp G.keptstamp else
     refuse StampOutside if ltb last stamp else
-    Accepted
+    Ok tt
 
 -- how many days before an evaluated one must not be cleared
 abbrev pub days_before : ℕ
@@ -74,4 +74,4 @@ evaluation_verdict last G day quarter T lent =
     refuse StampOutside if ltb T G.keptstamp else
     refuse StampOutside if ltb last T else
     refuse TooShort if ltb (length lent) (size_of G.registration) else
-    Accepted
+    Ok tt

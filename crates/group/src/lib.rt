@@ -1,17 +1,19 @@
 // A group as its registration, its numbers and a journal hold it: when it is damaged, and the tests of each call, in the order of its refusals.
 #![tactic(auto)]
 
-ghost use Rattle.std.specs.Prelude.{◌≡◌, ◌≤◌};
+ghost use Rattle.std.specs.Prelude.{◌≡◌, ◌≤◌, ◌*◌, not, ◌&&◌, length, nat_abs, leb, eqb};
+ghost use Rattle.answers.specs.Numbers.{with_value};
 ghost use Rattle.calendar.specs.Dates.{last_day};
-ghost use Rattle.group.specs.Held.{group_in};
-ghost use Rattle.group.specs.Refusals.{damaged, earliest, clear_verdict, evaluation_verdict};
-ghost use Rattle.group.specs.Stamps.{stamp_most, next_stamp};
-ghost use Rattle.group.specs.Working.{refused_look, new_look, settled, Looks};
-ghost use Rattle.journal.specs.Value.{value_in};
-ghost use Rattle.journal.specs.Found.{found};
+ghost use Rattle.points.specs.Points.{sign_suits};
+ghost use Rattle.values.specs.Values.{magnitude_most};
+ghost use Rattle.group.specs.Held.{held};
+ghost use Rattle.group.specs.Refusals.{damaged, full, earliest, submission_verdict, clear_verdict, evaluation_verdict};
+ghost use Rattle.group.specs.Stamps.{stamp_most};
+ghost use Rattle.group.specs.Working.{looked_of};
 
-use answers::{Refusal, Verdict};
+use answers::Refusal;
 use journal::Found;
+use lookup::Asked;
 use registration::Registration;
 use values::Measurement;
 
@@ -30,187 +32,164 @@ pub struct Numbers {
     pub entries: usize,
 }
 
-// What is looked up for a submission: whether it is a repeat, the stamp that it returns, and the place and the number of its entry; zeros where it is
-// refused.
+// A group: its registration, the last stamp given, its numbers, and the journal with its entries.
 #[derive(Clone, Copy)]
-pub struct Looked {
-    pub verdict: Verdict,
-    pub repeat: bool,
-    pub stamp: u64,
-    pub place: u64,
-    pub stored: u64,
+pub struct Group<'a> {
+    pub registration: &'a Registration,
+    pub last: u64,
+    pub numbers: Numbers,
+    pub journal: &'a [u64],
 }
 
-// Whether registration, record or journal is damaged.
-pub fn damaged(registration: Registration, last: u64, numbers: Numbers, journal: &[u64]) -> bool
-    ensures { result ≡ damaged last (group_in registration numbers journal.now) }
-{
-    if registration_damage::damaged(registration) {
-        return true;
-    }
-    if last < numbers.kept_stamp {
-        return true;
-    }
-    if STAMP_MOST < last {
-        return true;
-    }
-    let kept_day = numbers.kept_day;
-    if calendar::LAST_DAY < kept_day {
-        return true;
-    }
-    let count = numbers.entries;
-    if journal.len() / journal::ENTRY < count {
-        return true;
-    }
-    let points = registration.producers + registration.consumers;
-    !journal::right(journal, count, points as u64, kept_day, last)
+// What an accepted submission comes to: it repeats the reading shown, which has this stamp, or needs this entry.
+#[derive(Clone, Copy)]
+pub enum Looked {
+    Repeat(u64),
+    New { stamp: u64, place: u64, stored: u64 },
 }
 
-// A refused submission has nothing looked up.
-fn refused(refusal: Refusal) -> Looked
-    ensures { result ≡ refused_look refusal }
-{
-    Looked {
-        verdict: Verdict::Refused(refusal),
-        repeat: false,
-        stamp: 0,
-        place: 0,
-        stored: 0,
+impl<'a> Group<'a> {
+    // Whether registration, record or journal is damaged.
+    #[tactic(auto, using(crate::proofs::Undamaged::few, journal::proofs::Stored::length_entries, lists::proofs::TableLaws::length_table), unfolding(crate::specs::Refusals::damaged))]
+    pub fn damaged(&self) -> bool
+        ensures { result ≡ damaged self.now.last (held self.now) }
+    {
+        let Numbers { kept_stamp, kept_day, entries } = self.numbers;
+        registration_damage::damaged(*self.registration)
+            || self.last < kept_stamp
+            || STAMP_MOST < self.last
+            || calendar::LAST_DAY < kept_day
+            || self.journal.len() / journal::ENTRY < entries
+            || !journal::right(
+                self.journal,
+                entries,
+                (self.registration.producers + self.registration.consumers) as u64,
+                kept_day,
+                self.last,
+            )
     }
-}
 
-// The greater of the clock and the last stamp + 1.
-fn next_stamp(clock: u64, last: u64) -> u64
-    requires { last ≤ stamp_most }
-    ensures { result ≡ next_stamp clock last }
-{
-    let after = last + 1;
-    if clock < after {
-        return after;
-    }
-    clock
-}
-
-// A submission that needs a new entry: three numbers of the journal must be left.
-fn look_new(left: usize, clock: u64, last: u64, place: u64, stored: u64) -> Looked
-    requires { last ≤ stamp_most }
-    ensures { result ≡ new_look left clock last place stored }
-{
-    if left < journal::ENTRY {
-        return refused(Refusal::JournalFull);
-    }
-    let stamp = next_stamp(clock, last);
-    Looked {
-        verdict: Verdict::Accepted,
-        repeat: false,
-        stamp,
-        place,
-        stored,
-    }
-}
-
-// A submission that passes all tests but the last: a repeat of the reading shown needs no new entry.
-fn settle(old: Found, stored: u64, left: usize, clock: u64, last: u64, place: u64) -> Looked
-    requires { last ≤ stamp_most }
-    ensures { result ≡ settled (found old) (value_in stored) left clock last place }
-{
-    match old {
-        Found::Nothing => look_new(left, clock, last, place, stored),
-        Found::Shown(stamp, before) => {
-            if before == stored {
-                return Looked {
-                    verdict: Verdict::Accepted,
-                    repeat: true,
-                    stamp,
-                    place,
-                    stored,
-                };
-            }
-            look_new(left, clock, last, place, stored)
+    // The tests of a submission, and what it comes to if it passes them.
+    #[tactic(auto, using(answers::proofs::Refusals::order, crate::proofs::Looking::looking), unfolding(crate::specs::Refusals::submission_verdict))]
+    pub fn look(&self, clock: u64, measurement: Measurement) -> Result<Looked, Refusal>
+        ensures { result ≡ with_value (submission_verdict self.now.last (held self.now) clock measurement) (looked_of self.now.last (held self.now) clock measurement) }
+    {
+        if self.damaged() {
+            return Err(Refusal::Damaged);
         }
+        let Measurement { code, day, quarter, value } = measurement;
+        let points = self.registration.producers + self.registration.consumers;
+        let point = points::find(&self.registration.codes, points, code);
+        if point >= points {
+            return Err(Refusal::CodeNotInGroup);
+        }
+        if !calendar::exists(day, quarter) {
+            return Err(Refusal::NoSuchDay);
+        }
+        if day < self.numbers.kept_day {
+            return Err(Refusal::DayCleared);
+        }
+        if !self.suits(value, point) {
+            return Err(Refusal::ValueWrong);
+        }
+        if !self.clock_right(clock) {
+            return Err(Refusal::ClockOutside);
+        }
+        let place = journal::place(point as u64, day, quarter);
+        let magnitude = value.unsigned_abs();
+        if let Found::Shown(stamp, stored) = journal::shown(self.journal, self.numbers.entries, place, self.last) {
+            if stored == magnitude {
+                return Ok(Looked::Repeat(stamp));
+            }
+        }
+        if self.full() {
+            return Err(Refusal::JournalFull);
+        }
+        let stamp = clock.max(self.last + 1);
+        Ok(Looked::New {
+            stamp,
+            place,
+            stored: magnitude,
+        })
     }
-}
 
-// The tests of a submission, and what it comes to if it passes them.
-pub fn look(
-    registration: Registration,
-    last: u64,
-    numbers: Numbers,
-    journal: &[u64],
-    clock: u64,
-    measurement: Measurement,
-) -> Looked
-    ensures { Looks last (group_in registration numbers journal.now) clock measurement result }
-{
-    if damaged(registration, last, numbers, journal) {
-        return refused(Refusal::Damaged);
+    // Whether a value suits a point, by its sign and its magnitude.
+    fn suits(&self, value: i64, point: usize) -> bool
+        ensures { result ≡ (sign_suits self.now.registration.now.producers point value && leb (nat_abs value) magnitude_most) }
+    {
+        points::sign_suits(value, point, self.registration.producers)
+            && value.unsigned_abs() <= values::MAGNITUDE_MOST
     }
-    let producers = registration.producers;
-    let points = producers + registration.consumers;
-    let codes = registration.codes;
-    let point = points::find(&codes, points, measurement.code);
-    if point >= points {
-        return refused(Refusal::CodeNotInGroup);
-    }
-    let day = measurement.day;
-    let quarter = measurement.quarter;
-    if !calendar::exists(day, quarter) {
-        return refused(Refusal::NoSuchDay);
-    }
-    if day < numbers.kept_day {
-        return refused(Refusal::DayCleared);
-    }
-    let value = measurement.value;
-    if !points::sign_suits(value, point, producers) {
-        return refused(Refusal::ValueWrong);
-    }
-    let magnitude = values::magnitude(value);
-    if values::MAGNITUDE_MOST < magnitude {
-        return refused(Refusal::ValueWrong);
-    }
-    if STAMP_MOST < clock {
-        return refused(Refusal::ClockOutside);
-    }
-    if last == STAMP_MOST {
-        return refused(Refusal::ClockOutside);
-    }
-    let count = numbers.entries;
-    let place = journal::place(point as u64, day, quarter);
-    let found = journal::shown(journal, count, place, last);
-    let left = journal.len() - journal::ENTRY * count;
-    settle(found, magnitude, left, clock, last, place)
-}
 
-// The tests of a clear.
-pub fn clear_verdict(
-    registration: Registration,
-    last: u64,
-    numbers: Numbers,
-    journal: &[u64],
-    day: u64,
-    stamp: u64,
-) -> Verdict
-    ensures { result ≡ clear_verdict last (group_in registration numbers journal.now) day stamp }
-{
-    if damaged(registration, last, numbers, journal) {
-        return Verdict::Refused(Refusal::Damaged);
+    // Whether a new stamp can be given at this clock.
+    fn clock_right(&self, clock: u64) -> bool
+        ensures { result ≡ (leb clock stamp_most && not (eqb self.now.last stamp_most)) }
+    {
+        clock <= STAMP_MOST && self.last != STAMP_MOST
     }
-    if calendar::LAST_DAY < day {
-        return Verdict::Refused(Refusal::NoSuchDay);
+
+    // Whether fewer numbers of the journal are left than an entry has.
+    #[tactic(auto, using(journal::proofs::Stored::length_entries))]
+    fn full(&self) -> bool
+        requires { 3 * self.now.numbers.entries ≤ length self.now.journal.now }
+        ensures { result ≡ full (held self.now) }
+    {
+        self.journal.len() - journal::ENTRY * self.numbers.entries < journal::ENTRY
     }
-    if day < numbers.kept_day {
-        return Verdict::Refused(Refusal::DayCleared);
+
+    // Whether what was shown as of a stamp is kept: the stamp is not below the kept one, and not above the last.
+    fn keeps(&self, stamp: u64) -> bool
+        ensures { result ≡ (leb self.now.numbers.kept_stamp stamp && leb stamp self.now.last) }
+    {
+        self.numbers.kept_stamp <= stamp && stamp <= self.last
     }
-    if stamp < numbers.kept_stamp {
-        return Verdict::Refused(Refusal::StampOutside);
+
+    // The tests of a clear.
+    #[tactic(auto, using(answers::proofs::Refusals::order, crate::proofs::Undamaged::outside, crate::proofs::Undamaged::inside), unfolding(crate::specs::Refusals::clear_verdict))]
+    pub fn clear_verdict(&self, day: u64, stamp: u64) -> Result<(), Refusal>
+        ensures { result ≡ clear_verdict self.now.last (held self.now) day stamp }
+    {
+        if self.damaged() {
+            return Err(Refusal::Damaged);
+        }
+        if calendar::LAST_DAY < day {
+            return Err(Refusal::NoSuchDay);
+        }
+        if day < self.numbers.kept_day {
+            return Err(Refusal::DayCleared);
+        }
+        if !self.keeps(stamp) {
+            return Err(Refusal::StampOutside);
+        }
+        Ok(())
     }
-    if last < stamp {
-        return Verdict::Refused(Refusal::StampOutside);
+
+    // The tests of an evaluation, whose result is put into a list of so many numbers.
+    #[tactic(auto, using(answers::proofs::Refusals::order, crate::proofs::Undamaged::outside, crate::proofs::Undamaged::inside, crate::proofs::Undamaged::kept_day_most, crate::proofs::Undamaged::few_of), unfolding(crate::specs::Refusals::evaluation_verdict))]
+    pub fn evaluation_verdict(&self, asked: Asked, lent: &[u64]) -> Result<(), Refusal>
+        ensures { result ≡ evaluation_verdict self.now.last (held self.now) asked.day asked.quarter asked.until lent.now }
+    {
+        if self.damaged() {
+            return Err(Refusal::Damaged);
+        }
+        if !calendar::exists(asked.day, asked.quarter) {
+            return Err(Refusal::NoSuchDay);
+        }
+        if asked.day < earliest(self.numbers.kept_day) {
+            return Err(Refusal::DayCleared);
+        }
+        if !self.keeps(asked.until) {
+            return Err(Refusal::StampOutside);
+        }
+        if lent.len() < evaluation::layout_of(*self.registration).size {
+            return Err(Refusal::TooShort);
+        }
+        Ok(())
     }
-    Verdict::Accepted
 }
 
 // The earliest day that can be evaluated: the four weeks before it are not cleared.
+#[tactic(auto, unfolding(crate::specs::Refusals::earliest))]
 fn earliest(kept: u64) -> u64
     requires { kept ≤ last_day }
     ensures { result ≡ earliest kept }
@@ -219,39 +198,4 @@ fn earliest(kept: u64) -> u64
         return 0;
     }
     kept + DAYS_BEFORE
-}
-
-// The tests of an evaluation.
-pub fn evaluation_verdict(
-    registration: Registration,
-    last: u64,
-    numbers: Numbers,
-    journal: &[u64],
-    day: u64,
-    quarter: u64,
-    until: u64,
-    lent: &[u64],
-) -> Verdict
-    ensures { result ≡ evaluation_verdict last (group_in registration numbers journal.now) day quarter until lent.now }
-{
-    if damaged(registration, last, numbers, journal) {
-        return Verdict::Refused(Refusal::Damaged);
-    }
-    if !calendar::exists(day, quarter) {
-        return Verdict::Refused(Refusal::NoSuchDay);
-    }
-    if day < earliest(numbers.kept_day) {
-        return Verdict::Refused(Refusal::DayCleared);
-    }
-    if until < numbers.kept_stamp {
-        return Verdict::Refused(Refusal::StampOutside);
-    }
-    if last < until {
-        return Verdict::Refused(Refusal::StampOutside);
-    }
-    let layout = evaluation::layout_of(registration);
-    if lent.len() < layout.size {
-        return Verdict::Refused(Refusal::TooShort);
-    }
-    Verdict::Accepted
 }

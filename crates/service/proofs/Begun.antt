@@ -1,8 +1,8 @@
 -- A fresh service: refused with a record of zeros where its registration is damaged, and otherwise made from it. Assumes nothing.
 use mathlib.Core.Path.{◌≡◌, sym, ◌∙◌}
 use Rattle.answers.specs.declared.Refusal.{Refusal}
-use Rattle.answers.specs.declared.Verdict.{Verdict}
-use Rattle.answers.specs.declared.Verdict.TheVariants.{Accepted, Refused}
+use Rattle.answers.specs.Numbers.{Verdict}
+use Rattle.std.specs.Prelude.{Ok, Err}
 use Rattle.registration.specs.declared.Registration.{Registration}
 use Rattle.registration.specs.Damage.{soundness, empty}
 use Rattle.service.specs.declared.Service.{Service}
@@ -14,14 +14,14 @@ pub zeros_made : (zeros : Registration) → zeros ≡ empty → fresh_service ze
 zeros_made zeros e = rw e
 
 module _ (r : Registration) (verdict : Verdict) (e : verdict ≡ soundness r) (zeros : Service) (z : zeros ≡ zero_service) where
-  pub fresh_refused : (refusal : Refusal) → verdict ≡ Refused refusal
-      → ◌≡◌ {A = Fresh} (record { verdict = Refused refusal; service = zeros }) (fresh_of r)
+  pub fresh_refused : (refusal : Refusal) → verdict ≡ Err refusal
+      → ◌≡◌ {A = Fresh} (record { verdict = Err refusal; service = zeros }) (fresh_of r)
   fresh_refused refusal q =
-      let v : soundness r ≡ Refused refusal = sym e ∙ q in
+      let v : soundness r ≡ Err refusal = sym e ∙ q in
       rw (v, z)
 
-  pub fresh_made : verdict ≡ Accepted
+  pub fresh_made : verdict ≡ Ok tt
       → ◌≡◌ {A = Fresh} (record { verdict = verdict; service = record { registration = r; state = zeros.state } }) (fresh_of r)
   fresh_made q =
-      let v : soundness r ≡ Accepted = sym e ∙ q in
+      let v : soundness r ≡ Ok tt = sym e ∙ q in
       rw (q, v, z)

@@ -4,8 +4,8 @@ use mathlib.Core.Path.{◌≡◌, refl}
 use mathlib.Core.List.{◌∷◌}
 use lib.ListN.{replicate}
 use Rattle.lists.specs.Below.{every, sum_below, differ}
-use Rattle.answers.specs.declared.Verdict.{Verdict}
-use Rattle.answers.specs.declared.Verdict.TheVariants.{Accepted, Refused}
+use Rattle.answers.specs.Numbers.{Verdict}
+use Rattle.std.specs.Prelude.{Ok, Err}
 use Rattle.answers.specs.declared.Refusal.TheVariants.{Damaged}
 use Rattle.answers.specs.Order.{refuse◌if◌else◌}
 use Rattle.registration.specs.declared.Registration.{Registration}
@@ -52,8 +52,8 @@ zeros =
     }
 
 -- a status of 4 and a key of 10001 are damage, and nothing of the registration is given back; a status of 3 and a key of 10000 are not
-fresh : (fresh_of (pair 4 10000) ≡ answer (Refused Damaged) zeros)
-    × (fresh_of (pair 3 10001) ≡ answer (Refused Damaged) zeros)
-    × (fresh_of (pair 3 10000) ≡ answer Accepted (pair 3 10000))
+fresh : (fresh_of (pair 4 10000) ≡ answer (Err Damaged) zeros)
+    × (fresh_of (pair 3 10001) ≡ answer (Err Damaged) zeros)
+    × (fresh_of (pair 3 10000) ≡ answer (Ok tt) (pair 3 10000))
 unfolding pair zeros empty is_damaged every sum_below differ pairs_right is_code weighted refuse◌if◌else◌
 fresh = (refl, refl, refl)

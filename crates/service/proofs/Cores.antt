@@ -6,8 +6,8 @@ use mathlib.Core.Bool.{true, false}
 use mathlib.Core.List.{List, [], ◌∷◌, ◌++◌}
 use lib.ListN.{length, length-append}
 use Rattle.answers.specs.declared.Refusal.{Refusal}
-use Rattle.answers.specs.declared.Verdict.{Verdict}
-use Rattle.answers.specs.declared.Verdict.TheVariants.{Accepted, Refused}
+use Rattle.answers.specs.Numbers.{Verdict}
+use Rattle.std.specs.Prelude.{Ok, Err}
 use Rattle.lists.specs.Place.{placed}
 use Rattle.values.specs.declared.Measurement.{Measurement}
 use Rattle.calendar.specs.Quarters.{quarter_exists}
@@ -64,16 +64,16 @@ module _ (s : Service) (j : List ℕ) (clock : ℕ) (m : Measurement) (looked : 
   abbrev G : Group
   G = group_of s j
 
-  pub submits_refused : (refusal : Refusal) → looked.verdict ≡ Refused refusal
+  pub submits_refused : (refusal : Refusal) → looked.verdict ≡ Err refusal
       → Submits s j clock m (with_state s s.state) (record { verdict = looked.verdict; stamp = looked.stamp }) j
   unfolding call_on step
   submits_refused refusal e =
-      let v : submission_verdict last G clock m ≡ Refused refusal = sym k.verdict ∙ e in
+      let v : submission_verdict last G clock m ≡ Err refusal = sym k.verdict ∙ e in
       let t : looked.stamp ≡ 0 = k.zero refusal e in
       record { service = rw v; answers = rw (v, e, t); journal = rw v }
 
-  module _ (a : looked.verdict ≡ Accepted) where
-    abbrev v : submission_verdict last G clock m ≡ Accepted
+  module _ (a : looked.verdict ≡ Ok tt) where
+    abbrev v : submission_verdict last G clock m ≡ Ok tt
     v = sym k.verdict ∙ a
 
     pub submits_repeat : looked.repeat ≡ true
@@ -117,25 +117,25 @@ module _ (s : Service) (j : List ℕ) (clock : ℕ) (m : Measurement) (looked : 
         }
 
 -- ---- a clear
-pub clear_sound : (s : Service) (j : List ℕ) (day stamp : ℕ) → clear_verdict s.state.last (group_of s j) day stamp ≡ Accepted
+pub clear_sound : (s : Service) (j : List ℕ) (day stamp : ℕ) → clear_verdict s.state.last (group_of s j) day stamp ≡ Ok tt
     → Sound s.state.last (group_of s j)
 clear_sound s j day stamp e = (clearing _ _ _ _ e).sound
 
 module _ (s : Service) (j : List ℕ) (day stamp : ℕ) where
-  pub clears_refused : (verdict : Verdict) (refusal : Refusal) → verdict ≡ clear_verdict s.state.last (group_of s j) day stamp → verdict ≡ Refused refusal
-      → Clears s j day stamp (with_state s s.state) (record { verdict = Refused refusal; dropped = 0 }) j
+  pub clears_refused : (verdict : Verdict) (refusal : Refusal) → verdict ≡ clear_verdict s.state.last (group_of s j) day stamp → verdict ≡ Err refusal
+      → Clears s j day stamp (with_state s s.state) (record { verdict = Err refusal; dropped = 0 }) j
   unfolding call_on step
   clears_refused verdict refusal e q =
-      let v : clear_verdict s.state.last (group_of s j) day stamp ≡ Refused refusal = sym e ∙ q in
+      let v : clear_verdict s.state.last (group_of s j) day stamp ≡ Err refusal = sym e ∙ q in
       record { service = rw v; answers = rw v; journal = rw v }
 
   pub clears_accepted : (verdict : Verdict) (count dropped : ℕ) (j' : List ℕ) → verdict ≡ clear_verdict s.state.last (group_of s j) day stamp
-      → verdict ≡ Accepted → JournalCleared day stamp s.state.numbers.entries j j' count → dropped ≡ s.state.numbers.entries - count
+      → verdict ≡ Ok tt → JournalCleared day stamp s.state.numbers.entries j j' count → dropped ≡ s.state.numbers.entries - count
       → Clears s j day stamp (with_state s (record { last = s.state.last; numbers = record { kept_stamp = stamp; kept_day = day; entries = count } }))
       (record { verdict = verdict; dropped = dropped }) j'
   unfolding call_on step cleared
   clears_accepted verdict count dropped j' e q c d =
-      let v : clear_verdict s.state.last (group_of s j) day stamp ≡ Accepted = sym e ∙ q in
+      let v : clear_verdict s.state.last (group_of s j) day stamp ≡ Ok tt = sym e ∙ q in
       let n = s.state.numbers.entries in
       let es = keep day stamp (entries n j) in
       let emptied : n - length es ≡ emptied_of n (length es) = omega arith in
@@ -148,14 +148,14 @@ module _ (s : Service) (j : List ℕ) (day stamp : ℕ) where
 -- ---- an evaluation
 module _ (s : Service) (j : List ℕ) (day quarter T : ℕ) (lent : List ℕ) where
   pub evaluates_refused : (verdict : Verdict) (refusal : Refusal) → verdict ≡ evaluation_verdict s.state.last (group_of s j) day quarter T lent
-      → verdict ≡ Refused refusal → Evaluates s j day quarter T lent (record { verdict = Refused refusal; rounds = 0 }) lent
+      → verdict ≡ Err refusal → Evaluates s j day quarter T lent (record { verdict = Err refusal; rounds = 0 }) lent
   unfolding call_on step
   evaluates_refused verdict refusal e q =
-      let v : evaluation_verdict s.state.last (group_of s j) day quarter T lent ≡ Refused refusal = sym e ∙ q in
+      let v : evaluation_verdict s.state.last (group_of s j) day quarter T lent ≡ Err refusal = sym e ∙ q in
       record { answers = rw v; result = rw v }
 
   -- what an accepted evaluation has passed
-  module _ (v : evaluation_verdict s.state.last (group_of s j) day quarter T lent ≡ Accepted) where
+  module _ (v : evaluation_verdict s.state.last (group_of s j) day quarter T lent ≡ Ok tt) where
     pub evaluation_sound : Sound s.state.last (group_of s j)
     evaluation_sound = (evaluating _ _ _ _ _ _ v).sound
 
@@ -166,7 +166,7 @@ module _ (s : Service) (j : List ℕ) (day quarter T : ℕ) (lent : List ℕ) wh
         let m = evaluating _ _ _ _ _ _ v in
         (undamaged_is_shareable _ k.registered, m.exists, fits_of _ _ _ k, right_of _ _ (few_points _ _ k) k, m.long)
 
-    pub evaluates_accepted : (verdict : Verdict) (rounds : ℕ) (lent' : List ℕ) → verdict ≡ Accepted
+    pub evaluates_accepted : (verdict : Verdict) (rounds : ℕ) (lent' : List ℕ) → verdict ≡ Ok tt
         → ResultPut (result_from s.registration (values_in s.registration (entries s.state.numbers.entries j) day quarter T)) lent lent' rounds
         → Evaluates s j day quarter T lent (record { verdict = verdict; rounds = rounds }) lent'
     unfolding call_on step evaluated

@@ -3,8 +3,8 @@ use Prim.Native.Nat.{ℕ, ◌*◌, ◌≤◌}
 use mathlib.Core.Path.{◌≡◌, refl, ap}
 use mathlib.Core.List.{List}
 use lib.ListN.{length}
-use Rattle.answers.specs.declared.Verdict.{Verdict}
-use Rattle.answers.specs.declared.Verdict.TheVariants.{Accepted, Refused}
+use Rattle.answers.specs.Numbers.{Verdict}
+use Rattle.std.specs.Prelude.{Ok, Err}
 use Rattle.service.specs.declared.Service.{Service}
 use Rattle.group.specs.Refusals.{evaluation_verdict}
 use Rattle.service.specs.Calls.{evaluated, when_accepted, step}
@@ -18,17 +18,17 @@ Same s j left = (left.service ≡ s) × (left.journal ≡ j)
 
 module _ (s : Service) (j : List ℕ) (day quarter T : ℕ) (lent : List ℕ) where
   -- the group that record and journal hold is written back as it stands there
-  written_back_lem : 3 * s.state.numbers.entries ≤ length j → Same s j (written_back Accepted s j (evaluated s.state.last (group_of s j) day quarter T lent))
+  written_back_lem : 3 * s.state.numbers.entries ≤ length j → Same s j (written_back (Ok tt) s j (evaluated s.state.last (group_of s j) day quarter T lent))
   unfolding evaluated
   written_back_lem h = (ap (with_state s) (state_of_lem s j), written_again s j h)
 
   -- by the verdict: a refused evaluation writes nothing
-  either_same : (verdict : Verdict) → (verdict ≡ Accepted → 3 * s.state.numbers.entries ≤ length j)
+  either_same : (verdict : Verdict) → (verdict ≡ Ok tt → 3 * s.state.numbers.entries ≤ length j)
       → let after = when_accepted verdict s.state.last (group_of s j) lent (evaluated s.state.last (group_of s j) day quarter T lent) in
       Same s j (written_back after.seen.verdict s j after)
   unfolding evaluated
-  either_same Accepted h = written_back_lem (h refl)
-  either_same (Refused refusal) h = (refl, refl)
+  either_same (Ok _) h = written_back_lem (h refl)
+  either_same (Err refusal) h = (refl, refl)
 
 pub evaluation_alters_nothing : EvaluationAltersNothing
 unfolding call_on step

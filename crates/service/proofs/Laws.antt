@@ -3,8 +3,8 @@ use Prim.Native.Nat.{ℕ}
 use mathlib.Core.Path.{◌≡◌, refl, sym, ap, ◌∙◌}
 use mathlib.Core.Bool.{true, false≢true}
 use mathlib.Core.List.{List, []}
-use Rattle.answers.specs.declared.Verdict.{Verdict}
-use Rattle.answers.specs.declared.Verdict.TheVariants.{Accepted, Refused}
+use Rattle.answers.specs.Numbers.{Verdict}
+use Rattle.std.specs.Prelude.{Ok, Err}
 use Rattle.service.specs.declared.Service.{Service}
 use Rattle.group.specs.Group.{Group}
 use Rattle.service.specs.Call.{Seen, After, is_refused, refused}
@@ -20,14 +20,14 @@ use Rattle.group.proofs.Admitted.{clearing}
 -- a refused call writes nothing back
 nothing_written : (verdict : Verdict) (s : Service) (j : List ℕ) (after : After) → is_refused verdict ≡ true
     → ((written_back verdict s j after).service ≡ s) × ((written_back verdict s j after).journal ≡ j)
-nothing_written Accepted s j after e = absurd (false≢true e)
-nothing_written (Refused refusal) s j after e = (refl, refl)
+nothing_written (Ok _) s j after e = absurd (false≢true e)
+nothing_written (Err refusal) s j after e = (refl, refl)
 
 -- and leaves the group untouched
 untouched : (verdict : Verdict) (last : ℕ) (G : Group) (lent : List ℕ) (after : After) → is_refused verdict ≡ true
     → Leaves verdict last G lent after → Untouched last G lent after
-untouched Accepted last G lent after e k = absurd (false≢true e)
-untouched (Refused refusal) last G lent after e k = k
+untouched (Ok _) last G lent after e k = absurd (false≢true e)
+untouched (Err refusal) last G lent after e k = k
 
 -- so a refused call alters nothing
 pub refused_alters_nothing : RefusedAltersNothing
@@ -53,6 +53,6 @@ length_stays s j call = ((through s j call).length_same, (through s j call).regi
 pub clear_goes_on : ClearGoesOn
 unfolding step cleared
 clear_goes_on last G day stamp e =
-    let v : clear_verdict last G day stamp ≡ Accepted = accepted_verdict _ last G [] (cleared last G day stamp) e in
+    let v : clear_verdict last G day stamp ≡ Ok tt = accepted_verdict _ last G [] (cleared last G day stamp) e in
     let a = clearing last G day stamp v in
     rw v (a.not_cleared, a.from, a.to)

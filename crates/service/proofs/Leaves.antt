@@ -5,8 +5,8 @@ use mathlib.Core.Path.{◌≡◌, refl, sym, subst}
 use mathlib.Core.List.{List, [], ◌∷◌}
 use Rattle.values.specs.declared.Measurement.{Measurement}
 use lib.ListN.{length, length-append}
-use Rattle.answers.specs.declared.Verdict.{Verdict}
-use Rattle.answers.specs.declared.Verdict.TheVariants.{Accepted, Refused}
+use Rattle.answers.specs.Numbers.{Verdict}
+use Rattle.std.specs.Prelude.{Ok, Err}
 use Rattle.lists.proofs.Cases.{by_test}
 use Rattle.group.specs.Group.{Group}
 use Rattle.service.specs.Call.{Call, Submission, Clear, Evaluation, After}
@@ -34,18 +34,18 @@ pub record Fits (G : Group) (after : After) : Type 0 where
 
 -- what a call leaves, by its verdict
 abbrev pub Leaves : Verdict → (last : ℕ) → Group → (lent : List ℕ) → After → Type 0
-Leaves (Refused refusal) last G lent after = Untouched last G lent after
-Leaves Accepted last G lent after = Fits G after
+Leaves (Err refusal) last G lent after = Untouched last G lent after
+Leaves (Ok tt) last G lent after = Fits G after
 
 -- a refused call leaves all, and an accepted one what its own law says
-leaves_when_accepted : (verdict : Verdict) (last : ℕ) (G : Group) (lent : List ℕ) (after : After) → after.seen.verdict ≡ Accepted
-    → (verdict ≡ Accepted → Fits G after)
+leaves_when_accepted : (verdict : Verdict) (last : ℕ) (G : Group) (lent : List ℕ) (after : After) → after.seen.verdict ≡ Ok tt
+    → (verdict ≡ Ok tt → Fits G after)
     → Leaves (when_accepted verdict last G lent after).seen.verdict last G lent (when_accepted verdict last G lent after)
-leaves_when_accepted Accepted last G lent after e f = subst (λ (v : Verdict). Leaves v last G lent after) (sym e) (f refl)
-leaves_when_accepted (Refused refusal) last G lent after e f = record { last_same = refl; group = refl; result = refl; number = refl }
+leaves_when_accepted (Ok _) last G lent after e f = subst (λ (v : Verdict). Leaves v last G lent after) (sym e) (f refl)
+leaves_when_accepted (Err refusal) last G lent after e f = record { last_same = refl; group = refl; result = refl; number = refl }
 
 -- an accepted submission
-submission_fits : (last : ℕ) (G : Group) (clock : ℕ) (m : Measurement) → submission_verdict last G clock m ≡ Accepted
+submission_fits : (last : ℕ) (G : Group) (clock : ℕ) (m : Measurement) → submission_verdict last G clock m ≡ Ok tt
     → Fits G (submitted last G clock m)
 unfolding submitted
 submission_fits last G clock m e =
@@ -61,14 +61,14 @@ submission_fits last G clock m e =
     }))
 
 -- an accepted clear
-clear_fits : (last : ℕ) (G : Group) (day stamp : ℕ) → clear_verdict last G day stamp ≡ Accepted → Fits G (cleared last G day stamp)
+clear_fits : (last : ℕ) (G : Group) (day stamp : ℕ) → clear_verdict last G day stamp ≡ Ok tt → Fits G (cleared last G day stamp)
 unfolding cleared
 clear_fits last G day stamp e =
     let s = (clearing last G day stamp e).sound in
     record { registration = refl; room = refl; before = s.fits; now = omega (arith, s.fits, length_keep day stamp G.entries) }
 
 -- an accepted evaluation
-evaluation_fits : (last : ℕ) (G : Group) (day quarter T : ℕ) (lent : List ℕ) → evaluation_verdict last G day quarter T lent ≡ Accepted
+evaluation_fits : (last : ℕ) (G : Group) (day quarter T : ℕ) (lent : List ℕ) → evaluation_verdict last G day quarter T lent ≡ Ok tt
     → Fits G (evaluated last G day quarter T lent)
 unfolding evaluated
 evaluation_fits last G day quarter T lent e =

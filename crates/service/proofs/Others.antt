@@ -5,7 +5,7 @@ use mathlib.Core.Path.{◌≡◌, sym, ap, ◌∙◌}
 use mathlib.Core.Bool.{true, false}
 use mathlib.Core.List.{List, [], ◌∷◌, ◌++◌}
 use lib.ListN.{length, get_or, length-append}
-use Rattle.answers.specs.declared.Verdict.TheVariants.{Accepted}
+use Rattle.std.specs.Prelude.{Ok}
 use Rattle.lists.proofs.Cases.{by_test}
 use Rattle.values.specs.declared.Measurement.{Measurement}
 use Rattle.journal.specs.Entries.{Entry, keep}
@@ -41,7 +41,7 @@ module _ (s : Service) (j : List ℕ) (clock : ℕ) (m : Measurement) (e : refus
   more = entries count j ++ (entry_of G (next_stamp clock last) m ∷ [])
 
   -- the verdict, and what follows from it: the entries that there were have room
-  accepted : submission_verdict last G clock m ≡ Accepted
+  accepted : submission_verdict last G clock m ≡ Ok tt
   unfolding step
   accepted = accepted_verdict (submission_verdict last G clock m) last G [] (submitted last G clock m) (ap refused (sym (same_seen s j (Submission clock m))) ∙ e)
 
@@ -84,7 +84,7 @@ module _ (s : Service) (j : List ℕ) (day stamp : ℕ) (e : refused (call_on s 
   kept = keep day stamp (group_of s j).entries
 
   -- the verdict
-  clear_accepted : clear_verdict s.state.last (group_of s j) day stamp ≡ Accepted
+  clear_accepted : clear_verdict s.state.last (group_of s j) day stamp ≡ Ok tt
   unfolding step
   clear_accepted =
       accepted_verdict (clear_verdict s.state.last (group_of s j) day stamp) s.state.last (group_of s j) [] (cleared s.state.last (group_of s j) day stamp)

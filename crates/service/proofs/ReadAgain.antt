@@ -4,8 +4,8 @@ use native.Mathlib.Omega.{arith}
 use mathlib.Core.Path.{◌≡◌, refl, sym, ◌∙◌}
 use mathlib.Core.List.{List}
 use lib.ListN.{length}
-use Rattle.answers.specs.declared.Verdict.{Verdict}
-use Rattle.answers.specs.declared.Verdict.TheVariants.{Accepted, Refused}
+use Rattle.answers.specs.Numbers.{Verdict}
+use Rattle.std.specs.Prelude.{Ok, Err}
 use Rattle.journal.specs.Stored.{written}
 use Rattle.journal.proofs.Stored.{entries_written, length_entries, length_written}
 use Rattle.service.specs.declared.Service.{Service}
@@ -17,8 +17,8 @@ use Rattle.service.proofs.Leaves.{Fits, Leaves, leaves}
 
 -- what is seen stays what it was, whether the group is written back or not
 seen_kept : (verdict : Verdict) (s : Service) (j : List ℕ) (after : After) → (written_back verdict s j after).seen ≡ after.seen
-seen_kept Accepted s j after = refl
-seen_kept (Refused refusal) s j after = refl
+seen_kept (Ok _) s j after = refl
+seen_kept (Err refusal) s j after = refl
 
 -- a call on record and journal shows what it shows on the group that they hold
 pub same_seen : (s : Service) (j : List ℕ) (call : Call) → (call_on s j call).seen ≡ (step s.state.last (group_of s j) call).seen
@@ -38,7 +38,7 @@ pub record Through (s : Service) (j : List ℕ) (after : After) (left : Left) : 
 -- a call on record and journal that leaves this of the group in them
 module _ (s : Service) (j : List ℕ) (after : After) where
   -- an accepted call
-  through_accepted : Fits (group_of s j) after → Through s j after (written_back Accepted s j after)
+  through_accepted : Fits (group_of s j) after → Through s j after (written_back (Ok tt) s j after)
   through_accepted f =
       let es = after.group.entries in
       let emptied = emptied_of s.state.numbers.entries (length es) in
@@ -64,8 +64,8 @@ module _ (s : Service) (j : List ℕ) (after : After) where
   -- a call of either verdict
   through_either : (verdict : Verdict) (lent : List ℕ) → Leaves verdict s.state.last (group_of s j) lent after
       → Through s j after (written_back verdict s j after)
-  through_either Accepted lent f = through_accepted f
-  through_either (Refused refusal) lent k =
+  through_either (Ok _) lent f = through_accepted f
+  through_either (Err refusal) lent k =
       record { seen = refl; last = sym k.last_same; group = sym k.group; registration = refl; length_same = refl }
 
 -- every call, on whatever record and journal

@@ -6,8 +6,8 @@ use mathlib.Core.List.{List, []}
 use Rattle.std.specs.Prelude.{Option, None, Some}
 use Rattle.values.specs.declared.Measurement.{Measurement}
 use lib.ListN.{length}
-use Rattle.answers.specs.declared.Verdict.{Verdict}
-use Rattle.answers.specs.declared.Verdict.TheVariants.{Accepted, Refused}
+use Rattle.answers.specs.Numbers.{Verdict}
+use Rattle.std.specs.Prelude.{Ok, Err}
 use Rattle.lists.proofs.Cases.{by_test}
 use Rattle.registration.specs.declared.Registration.{Registration}
 use Rattle.journal.specs.Order.{Reading}
@@ -36,18 +36,18 @@ stamp_shown T rs (Some m) k = k.within_time
 
 -- a refused call returns 0, an accepted one what its own law says
 module _ (last : ℕ) (G : Group) (lent : List ℕ) (after : After) where
-  number_when_accepted : (P : ℕ → Type 0) (verdict : Verdict) → P 0 → (verdict ≡ Accepted → P after.seen.number)
+  number_when_accepted : (P : ℕ → Type 0) (verdict : Verdict) → P 0 → (verdict ≡ Ok tt → P after.seen.number)
       → P (when_accepted verdict last G lent after).seen.number
-  number_when_accepted P Accepted h k = k refl
-  number_when_accepted P (Refused refusal) h k = h
+  number_when_accepted P (Ok _) h k = k refl
+  number_when_accepted P (Err refusal) h k = h
 
-  result_when_accepted : (verdict : Verdict) (r : Registration) → (verdict ≡ Accepted → ResultWithin r after.seen.result)
-      → (when_accepted verdict last G lent after).seen.verdict ≡ Accepted → ResultWithin r (when_accepted verdict last G lent after).seen.result
-  result_when_accepted Accepted r h e = h refl
-  result_when_accepted (Refused refusal) r h e = never_accepted refusal e
+  result_when_accepted : (verdict : Verdict) (r : Registration) → (verdict ≡ Ok tt → ResultWithin r after.seen.result)
+      → (when_accepted verdict last G lent after).seen.verdict ≡ Ok tt → ResultWithin r (when_accepted verdict last G lent after).seen.result
+  result_when_accepted (Ok _) r h e = h refl
+  result_when_accepted (Err refusal) r h e = never_accepted refusal e
 
 -- the stamp of an accepted submission
-submitted_number : (last : ℕ) (G : Group) (clock : ℕ) (m : Measurement) → submission_verdict last G clock m ≡ Accepted
+submitted_number : (last : ℕ) (G : Group) (clock : ℕ) (m : Measurement) → submission_verdict last G clock m ≡ Ok tt
     → (submitted last G clock m).seen.number ≤ stamp_most
 unfolding submitted
 submitted_number last G clock m e =
@@ -59,12 +59,12 @@ submitted_number last G clock m e =
     (λ t. rw t (omega (arith, s.last_stamp, a.clock_small, a.last_less)))
 
 -- the dropped count of an accepted clear
-cleared_number : (last : ℕ) (G : Group) (day stamp : ℕ) → clear_verdict last G day stamp ≡ Accepted → 3 * (cleared last G day stamp).seen.number ≤ G.room
+cleared_number : (last : ℕ) (G : Group) (day stamp : ℕ) → clear_verdict last G day stamp ≡ Ok tt → 3 * (cleared last G day stamp).seen.number ≤ G.room
 unfolding cleared clear_verdict
 cleared_number last G day stamp e = omega (arith, (clearing last G day stamp e).sound.fits)
 
 -- the result of an accepted evaluation
-evaluated_result : (last : ℕ) (G : Group) (day quarter T : ℕ) (lent : List ℕ) → evaluation_verdict last G day quarter T lent ≡ Accepted
+evaluated_result : (last : ℕ) (G : Group) (day quarter T : ℕ) (lent : List ℕ) → evaluation_verdict last G day quarter T lent ≡ Ok tt
     → ResultWithin G.registration (evaluated last G day quarter T lent).seen.result
 unfolding evaluated evaluation_verdict
 evaluated_result last G day quarter T lent e =
@@ -105,7 +105,7 @@ module _ (s : Service) (j : List ℕ) where
         (λ e. rounds_few s.registration (readings_of G) day quarter T))
 
     -- and an accepted one gives no number above what bounds its part
-    pub result_returned : (call_on s j (Evaluation day quarter T lent)).seen.verdict ≡ Accepted
+    pub result_returned : (call_on s j (Evaluation day quarter T lent)).seen.verdict ≡ Ok tt
         → ResultWithin s.registration (call_on s j (Evaluation day quarter T lent)).seen.result
     unfolding step
     result_returned e =

@@ -8,8 +8,8 @@ use lib.Dec.{leb, ltb}
 use lib.IntN.{nat_abs}
 use lib.ListN.{length, length-append}
 use borrow.Author.Tests.{leb-true, lt-ltb, le-leb}
-use Rattle.answers.specs.declared.Verdict.{Verdict}
-use Rattle.answers.specs.declared.Verdict.TheVariants.{Accepted, Refused}
+use Rattle.answers.specs.Numbers.{Verdict}
+use Rattle.std.specs.Prelude.{Ok, Err}
 use Rattle.lists.proofs.Cases.{by_test}
 use Rattle.lists.proofs.Below.{and_left}
 use Rattle.values.specs.declared.Measurement.{Measurement}
@@ -90,10 +90,10 @@ sound_less last G day stamp a =
 
 -- a refused call leaves the group that there was
 sound_when_accepted : (verdict : Verdict) (last : ℕ) (G : Group) (lent : List ℕ) (after : After) → Sound last G
-    → (verdict ≡ Accepted → Sound after.last after.group)
+    → (verdict ≡ Ok tt → Sound after.last after.group)
     → Sound (when_accepted verdict last G lent after).last (when_accepted verdict last G lent after).group
-sound_when_accepted Accepted last G lent after k f = f refl
-sound_when_accepted (Refused refusal) last G lent after k f = k
+sound_when_accepted (Ok _) last G lent after k f = f refl
+sound_when_accepted (Err refusal) last G lent after k f = k
 
 -- every call
 sound_after : (last : ℕ) (G : Group) (call : Call) → Sound last G → Sound (step last G call).last (step last G call).group

@@ -1,7 +1,7 @@
 -- The calls on a group, and what a caller sees of one. The last stamp is handed in and handed back. Assumes nothing.
 use Rattle.std.specs.Prelude.{ℕ, Bool, true, false, List}
-use Rattle.answers.specs.declared.Verdict.{Verdict}
-use Rattle.answers.specs.declared.Verdict.TheVariants.{Accepted, Refused}
+use Rattle.answers.specs.Numbers.{Verdict}
+use Rattle.std.specs.Prelude.{Ok, Err}
 use Rattle.values.specs.declared.Measurement.{Measurement}
 use Rattle.group.specs.Group.{Group}
 
@@ -20,8 +20,8 @@ pub record Seen : Type 0 where
 
 -- whether a verdict is a refusal; an accepted call is one not refused
 abbrev pub is_refused : Verdict → Bool
-is_refused Accepted = false
-is_refused (Refused refusal) = true
+is_refused (Ok _) = false
+is_refused (Err refusal) = true
 
 -- whether a call was refused, from what is seen of it
 abbrev pub refused : Seen → Bool

@@ -1,7 +1,7 @@
 -- What each call does: its refusal, which alters nothing, or what an accepted call leaves. Assumes nothing.
 use Rattle.std.specs.Prelude.{ℕ, ◌-◌, cond, List, [], ◌∷◌, ◌++◌, length}
-use Rattle.answers.specs.declared.Verdict.{Verdict}
-use Rattle.answers.specs.declared.Verdict.TheVariants.{Accepted, Refused}
+use Rattle.answers.specs.Numbers.{Verdict}
+use Rattle.std.specs.Prelude.{Ok, Err}
 use Rattle.lists.specs.Place.{placed}
 use Rattle.evaluation.specs.Layout.{result_of}
 use Rattle.journal.specs.Value.{value_of, stored_of}
@@ -16,7 +16,7 @@ use Rattle.group.specs.Stamps.{next_stamp}
 
 -- an accepted call that returns a number and was lent no list
 abbrev pub returned : ℕ → Seen
-returned number = record { verdict = Accepted; number = number; result = [] }
+returned number = record { verdict = Ok tt; number = number; result = [] }
 
 -- a group with one entry more
 abbrev pub with_entry : Group → Entry → Group
@@ -66,16 +66,16 @@ unfoldable pub evaluated : (last : ℕ) → Group → (day quarter T : ℕ) → 
 evaluated last G day quarter T lent =
     let result = evaluation_of G.registration (readings_of G) day quarter T in
     record {
-      seen = record { verdict = Accepted; number = result.allocation.rounds; result = placed 0 (result_of result) lent };
+      seen = record { verdict = Ok tt; number = result.allocation.rounds; result = placed 0 (result_of result) lent };
       last = last;
       group = G;
     }
 
 -- a refused call returns zeros and alters nothing
 abbrev pub when_accepted : Verdict → (last : ℕ) → Group → (lent : List ℕ) → After → After
-when_accepted Accepted last G lent accepted = accepted
-when_accepted (Refused refusal) last G lent accepted =
-    record { seen = record { verdict = Refused refusal; number = 0; result = lent }; last = last; group = G }
+when_accepted (Ok _) last G lent accepted = accepted
+when_accepted (Err refusal) last G lent accepted =
+    record { seen = record { verdict = Err refusal; number = 0; result = lent }; last = last; group = G }
 
 -- a call on a group under a last stamp
 unfoldable pub step : (last : ℕ) → Group → Call → After

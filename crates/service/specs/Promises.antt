@@ -1,7 +1,7 @@
 -- What the code's calls promise, for any record and any journal: answer, record, journal and result list are those of the definitions. Assumes nothing.
 use Rattle.std.specs.Prelude.{ℕ, ◌≡◌, List}
-use Rattle.answers.specs.declared.Verdict.{Verdict}
-use Rattle.answers.specs.declared.Verdict.TheVariants.{Accepted, Refused}
+use Rattle.answers.specs.Numbers.{Verdict}
+use Rattle.std.specs.Prelude.{Ok, Err}
 use Rattle.registration.specs.declared.Registration.{Registration}
 use Rattle.registration.specs.Damage.{soundness}
 use Rattle.values.specs.declared.Measurement.{Measurement}
@@ -15,8 +15,8 @@ use Rattle.service.specs.Record.{fresh_service, zero_service, call_on}
 
 -- a fresh service is refused by 15 where its registration is damaged, with a record of zeros
 abbrev pub fresh_if : Verdict → Registration → Service
-fresh_if Accepted r = fresh_service r
-fresh_if (Refused refusal) r = zero_service
+fresh_if (Ok _) r = fresh_service r
+fresh_if (Err refusal) r = zero_service
 
 -- the answer of `fresh`: verdict and record
 abbrev pub fresh_of : Registration → Fresh

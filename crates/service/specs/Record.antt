@@ -1,7 +1,7 @@
 -- The record and the journal of a service: how a group stands in them, and what a call leaves there. Assumes nothing.
 use Rattle.std.specs.Prelude.{ℕ, ◌-◌, List, length}
-use Rattle.answers.specs.declared.Verdict.{Verdict}
-use Rattle.answers.specs.declared.Verdict.TheVariants.{Accepted, Refused}
+use Rattle.answers.specs.Numbers.{Verdict}
+use Rattle.std.specs.Prelude.{Ok, Err}
 use Rattle.registration.specs.declared.Registration.{Registration}
 use Rattle.registration.specs.Damage.{empty}
 use Rattle.journal.specs.Stored.{written}
@@ -57,8 +57,8 @@ emptied_of stood left = stood - left
 
 -- an accepted call writes the group back, and emptied numbers become 0; a refused one writes nothing
 abbrev pub written_back : Verdict → Service → List ℕ → After → Left
-written_back (Refused refusal) s j after = record { seen = after.seen; service = s; journal = j }
-written_back Accepted s j after =
+written_back (Err refusal) s j after = record { seen = after.seen; service = s; journal = j }
+written_back (Ok _) s j after =
     record {
       seen = after.seen;
       service = with_state s (state_of after.last after.group);

@@ -8,8 +8,8 @@ use Rattle.journal.proofs.Kept.{length_keep}
 use Rattle.service.proofs.Cores.{clear_sound, clears_refused, clears_accepted}
 use Rattle.service.proofs.clear.Goals as goal
 
-pub returns-in-Refused : goal.returns-in-Refused
-returns-in-Refused c = clears_refused _ _ _ _ _ _ c.clear_verdict-verdict.ensures c.in-Refused.is
+pub returns-in-Err : goal.returns-in-Err
+returns-in-Err c = clears_refused _ _ _ _ _ _ c.clear_verdict-verdict.ensures c.in-Err.is
 
 pub overflow_add-points : goal.overflow_add-points
 overflow_add-points c =

@@ -3,8 +3,8 @@ use Rattle.service.proofs.Cores.{submits_refused, submits_repeat, new_fits, subm
 use native.Mathlib.Omega.{arith}
 use Rattle.service.proofs.submit.Goals as goal
 
-pub returns-in-Refused : goal.returns-in-Refused
-returns-in-Refused c = submits_refused _ _ _ _ _ c.look-looked.ensures _ c.in-Refused.is
+pub returns-in-Err : goal.returns-in-Err
+returns-in-Err c = submits_refused _ _ _ _ _ c.look-looked.ensures _ c.in-Err.is
 
 pub returns-then-looked : goal.returns-then-looked
 returns-then-looked c = submits_repeat _ _ _ _ _ c.look-looked.ensures (search) c.if-looked.true
