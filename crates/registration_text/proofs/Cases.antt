@@ -1,5 +1,5 @@
 -- Texts and their answers, by one test that is computed over the rows of a table: case LIST, an example of each refusal, the most that a line
--- may name, and the zeros of a refused text. Assumes nothing.
+-- may name, and that nothing is given back of a refused text. Assumes nothing.
 use Prim.Native.Nat.{ℕ}
 use Prim.Native.Char.{code}
 use Prim.Native.String.{String, [] as end, ◌∷◌ as ◌then◌, ◌++◌}
@@ -9,11 +9,11 @@ use mathlib.Core.List.{List, [], ◌∷◌}
 use lib.Dec.{eqb}
 use lib.ListN.{replicate}
 use Rattle.answers.specs.declared.Refusal.TheVariants.{NotInColumns, ProducerOrKeyWrong, KeysAbove}
-use Rattle.answers.specs.declared.Verdict.TheVariants.{Accepted, Refused}
+use Rattle.std.specs.Prelude.{Ok, Err}
 use Rattle.answers.specs.Order.{refuse◌if◌else◌}
 use Rattle.answers.specs.Numbers.{answer_of}
-use Rattle.columns.specs.Column.{column_of, lead_of, value_from, same_bytes, number_in}
-use Rattle.columns.specs.Fields.{numbers_in, total, columns_of}
+use Rattle.columns.specs.Column.{column_of, lead_of, value_from, number_in}
+use Rattle.columns.specs.Fields.{numbers_in, columns_of}
 use Rattle.lines.specs.Line.{first_line, after_line}
 use Rattle.lines.specs.Lines.{line_in}
 use Rattle.lists.specs.Below.{every, differ, sum_below}
@@ -94,10 +94,10 @@ rows =
 -- each row's text gets its answer
 right : List Row → Bool
 right [] = true
-right (r ∷ rest) = eqb (answer_of (read_text (bytes r.text)).verdict) r.answer && right rest
+right (r ∷ rest) = eqb (answer_of (read_text (bytes r.text))) r.answer && right rest
 
 answers : right rows ≡ true
-unfolding bytes g d1 o1 o2 list row rows right refuse◌if◌else◌ column_of lead_of value_from same_bytes number_in numbers_in total columns_of first_line after_line every differ sum_below is_code weighted pairs_right empty widths_of_pairs pairs_from read_text read_g read_d read_o line_in fixed_in rest_in verdict_g verdict_d verdict_o verdict_of_all with_point with_count with_pair with_pairs
+unfolding bytes g d1 o1 o2 list row rows right refuse◌if◌else◌ column_of lead_of value_from number_in numbers_in columns_of first_line after_line every differ sum_below is_code weighted pairs_right empty widths_of_pairs pairs_from read_text read_g read_d read_o line_in fixed_in rest_in verdict_g verdict_d verdict_o verdict_of_all with_point with_count with_pair with_pairs
 answers = refl
 
 -- ---- the most that a line may name
@@ -124,7 +124,7 @@ named =
 
 -- the texts that name five producers and six get their answers
 names : right named ≡ true
-unfolding bytes g d1 d2 d3 d4 d5 row right named refuse◌if◌else◌ column_of lead_of value_from same_bytes number_in numbers_in total columns_of first_line after_line every differ sum_below is_code weighted pairs_right empty widths_of_pairs pairs_from read_text read_g read_d read_o line_in fixed_in rest_in verdict_g verdict_d verdict_o verdict_of_all with_point with_count with_pair with_pairs
+unfolding bytes g d1 d2 d3 d4 d5 row right named refuse◌if◌else◌ column_of lead_of value_from number_in numbers_in columns_of first_line after_line every differ sum_below is_code weighted pairs_right empty widths_of_pairs pairs_from read_text read_g read_d read_o line_in fixed_in rest_in verdict_g verdict_d verdict_o verdict_of_all with_point with_count with_pair with_pairs
 names = refl
 
 -- the G line alone: 64 points at most, and at least one of each kind
@@ -148,38 +148,24 @@ group_right (r ∷ rest) = eqb (answer_of (verdict_g (line_in letter_g widths_g 
 
 -- the G lines get their answers
 group_answers : group_right groups ≡ true
-unfolding bytes row groups group_right refuse◌if◌else◌ column_of lead_of value_from same_bytes number_in numbers_in total line_in verdict_g
+unfolding bytes row groups group_right refuse◌if◌else◌ column_of lead_of value_from number_in numbers_in line_in verdict_g
 group_answers = refl
 
 -- ---- a refused text
 
--- a registration of zeros, written out
-zeros : Registration
-zeros =
-    record {
-      producers = 0;
-      consumers = 0;
-      iteration = 0;
-      codes = replicate 64 0;
-      statuses = replicate 64 0;
-      counts = replicate 64 0;
-      sources = replicate 320 0;
-      keys = replicate 320 0;
-    }
-
 -- LIST with a key of 0 on its last line: nothing stays of the lines before it
-last_line : read_text (bytes (g ++ d1 ++ o1 ++ "O 859182400220162095 0 1   1     0\n")) ≡ record { verdict = Refused ProducerOrKeyWrong; registration = zeros }
-unfolding bytes g d1 o1 zeros refuse◌if◌else◌ column_of lead_of value_from same_bytes number_in numbers_in total columns_of first_line after_line every differ sum_below is_code weighted pairs_right empty widths_of_pairs pairs_from read_text read_g read_d read_o line_in fixed_in rest_in verdict_g verdict_d verdict_o verdict_of_all with_point with_count with_pair with_pairs
+last_line : read_text (bytes (g ++ d1 ++ o1 ++ "O 859182400220162095 0 1   1     0\n")) ≡ Err ProducerOrKeyWrong
+unfolding bytes g d1 o1 refuse◌if◌else◌ column_of lead_of value_from number_in numbers_in columns_of first_line after_line every differ sum_below is_code weighted pairs_right empty widths_of_pairs pairs_from read_text read_g read_d read_o line_in fixed_in rest_in verdict_g verdict_d verdict_o verdict_of_all with_point with_count with_pair with_pairs
 last_line = refl
 
 -- LIST and one byte more: nothing stays of all its lines
-extra_text : read_text (bytes (list ++ "O")) ≡ record { verdict = Refused NotInColumns; registration = zeros }
-unfolding bytes g d1 o1 o2 list zeros refuse◌if◌else◌ column_of lead_of value_from same_bytes number_in numbers_in total columns_of first_line after_line every differ sum_below is_code weighted pairs_right empty widths_of_pairs pairs_from read_text read_g read_d read_o line_in fixed_in rest_in verdict_g verdict_d verdict_o verdict_of_all with_point with_count with_pair with_pairs
+extra_text : read_text (bytes (list ++ "O")) ≡ Err NotInColumns
+unfolding bytes g d1 o1 o2 list refuse◌if◌else◌ column_of lead_of value_from number_in numbers_in columns_of first_line after_line every differ sum_below is_code weighted pairs_right empty widths_of_pairs pairs_from read_text read_g read_d read_o line_in fixed_in rest_in verdict_g verdict_d verdict_o verdict_of_all with_point with_count with_pair with_pairs
 extra_text = refl
 
 -- LIST with keys that sum to 10001: nothing stays of all its lines
-keys_above : read_text (bytes (g ++ d1 ++ o1 ++ "O 859182400220162095 0 1   1  6001\n")) ≡ record { verdict = Refused KeysAbove; registration = zeros }
-unfolding bytes g d1 o1 zeros refuse◌if◌else◌ column_of lead_of value_from same_bytes number_in numbers_in total columns_of first_line after_line every differ sum_below is_code weighted pairs_right empty widths_of_pairs pairs_from read_text read_g read_d read_o line_in fixed_in rest_in verdict_g verdict_d verdict_o verdict_of_all with_point with_count with_pair with_pairs
+keys_above : read_text (bytes (g ++ d1 ++ o1 ++ "O 859182400220162095 0 1   1  6001\n")) ≡ Err KeysAbove
+unfolding bytes g d1 o1 refuse◌if◌else◌ column_of lead_of value_from number_in numbers_in columns_of first_line after_line every differ sum_below is_code weighted pairs_right empty widths_of_pairs pairs_from read_text read_g read_d read_o line_in fixed_in rest_in verdict_g verdict_d verdict_o verdict_of_all with_point with_count with_pair with_pairs
 keys_above = refl
 
 -- ---- LIST, read and written again
@@ -198,8 +184,8 @@ listed =
       keys = 4000 ∷ 0 ∷ 0 ∷ 0 ∷ 0 ∷ 6000 ∷ replicate 314 0;
     }
 
-list_read : read_text (bytes list) ≡ record { verdict = Accepted; registration = listed }
-unfolding bytes g d1 o1 o2 list listed refuse◌if◌else◌ column_of lead_of value_from same_bytes number_in numbers_in total columns_of first_line after_line every differ sum_below is_code weighted pairs_right empty widths_of_pairs pairs_from read_text read_g read_d read_o line_in fixed_in rest_in verdict_g verdict_d verdict_o verdict_of_all with_point with_count with_pair with_pairs
+list_read : read_text (bytes list) ≡ Ok listed
+unfolding bytes g d1 o1 o2 list listed refuse◌if◌else◌ column_of lead_of value_from number_in numbers_in columns_of first_line after_line every differ sum_below is_code weighted pairs_right empty widths_of_pairs pairs_from read_text read_g read_d read_o line_in fixed_in rest_in verdict_g verdict_d verdict_o verdict_of_all with_point with_count with_pair with_pairs
 list_read = refl
 
 list_written : text_of listed ≡ bytes list

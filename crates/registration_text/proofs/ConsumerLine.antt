@@ -17,7 +17,7 @@ use Rattle.lists.proofs.Below.{both}
 use Rattle.lines.specs.Lines.{line_of}
 use Rattle.lines.proofs.Laws.{line_first, begins, when_some, closed, listed}
 use Rattle.registration_text.specs.Lines.{letter_o, widths_o, widths_of_pairs, pairs_from}
-use Rattle.registration_text.specs.Reader.{fixed_in, rest_in, source_in, key_in}
+use Rattle.registration_text.specs.Reader.{fixed_in, rest_in, nth_source, nth_key}
 use Rattle.registration_text.proofs.Named.{total_pairs, length_widths, pairs_listed}
 
 -- what such a line says: code, status, how many producers it names, and by priority their numbers and the keys
@@ -48,7 +48,6 @@ module _ (count : ℕ) (fixed pairs : List ℕ) (fits : fitting widths_o fixed �
   apart = rw (columns_append widths_o fixed (widths_of_pairs count) pairs (fitting_length widths_o fixed fits), append_assoc)
 
   length_fixed : length (columns_of widths_o fixed) ≡ 23
-  unfolding total
   length_fixed = length_columns widths_o fixed (fitting_length widths_o fixed fits)
 
   length_rest : length (columns_of (widths_of_pairs count) pairs) ≡ 10 * count
@@ -76,7 +75,7 @@ module _ (count : ℕ) (fixed pairs : List ℕ) (fits : fitting widths_o fixed �
 consumer_written : (count : ℕ) (line fixed pairs : List ℕ) → fixed_in line ≡ Some fixed → rest_in count line ≡ Some pairs
     → (line ≡ line_of letter_o (widths_o ++ widths_of_pairs count) (fixed ++ pairs)) × (fitting widths_o fixed ≡ true)
     × (fitting (widths_of_pairs count) pairs ≡ true)
-unfolding fixed_in rest_in total
+unfolding fixed_in rest_in
 consumer_written count [] fixed pairs e q = let z : ◌≡◌ {A = ℕ} 0 1 = cc in absurd (omega arith)
 consumer_written count (byte ∷ bytes) fixed pairs e q =
     let n = 10 * count in
@@ -110,7 +109,7 @@ begins_consumer_read l rest fits fit =
 
 -- what the numbers of the fixed part and of the rest say
 abbrev pub said_by : Option (List ℕ) → Option (List ℕ) → Said
-said_by fixed rest = record { code = nth 0 fixed; status = nth 1 fixed; count = nth 2 fixed; source = source_in rest; key = key_in rest }
+said_by fixed rest = record { code = nth 0 fixed; status = nth 1 fixed; count = nth 2 fixed; source = nth_source rest; key = nth_key rest }
 
 pub begins_consumer_written : (text : List ℕ) → let fixed = fixed_in (first_line text) in let rest = rest_in (nth 2 fixed) (first_line text) in
     is_none fixed ≡ false → is_none rest ≡ false → text ≡ line_said (said_by fixed rest) ++ after_line text
@@ -125,6 +124,6 @@ begins_consumer_written text e q = go (fixed_in (first_line text)) (rest_in (nth
         let w = consumer_written count (first_line text) ns ms f g in
         let three : ns ≡ get_or ns 0 0 ∷ get_or ns 1 0 ∷ count ∷ [] = listed 3 ns (sym (fitting_length widths_o ns w.1)) in
         let l : length ms ≡ 2 * count = sym (fitting_length (widths_of_pairs count) ms w.2) ∙ length_widths count in
-        let pairs : pairs_from (source_in (Some ms)) (key_in (Some ms)) 0 count ≡ ms =
-        pairs_listed (source_in (Some ms)) (key_in (Some ms)) 0 count ms l (λ k h. (rw zero-add, rw zero-add)) in
+        let pairs : pairs_from (nth_source (Some ms)) (nth_key (Some ms)) 0 count ≡ ms =
+        pairs_listed (nth_source (Some ms)) (nth_key (Some ms)) 0 count ms l (λ k h. (rw zero-add, rw zero-add)) in
         begins text _ (w.0 ∙ ap (line_of letter_o (widths_o ++ widths_of_pairs count)) (ap (λ (ls : List ℕ). ls ++ ms) three ∙ cc pairs))

@@ -1,3 +1,4 @@
+pub mod Going
 pub mod Cases
 pub mod WriterCases
 pub mod Fronts

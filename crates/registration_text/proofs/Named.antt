@@ -11,7 +11,7 @@ use Rattle.columns.specs.Fields.{total, fitting}
 use Rattle.registration_text.specs.Lines.{widths_of_pairs, pairs_from}
 
 pub total_pairs : (n : ℕ) → total (widths_of_pairs n) ≡ 10 * n
-unfolding total widths_of_pairs
+unfolding widths_of_pairs
 total_pairs zero = refl
 total_pairs (suc n) = rw (total_pairs n) (omega arith)
 

@@ -5,7 +5,7 @@ use mathlib.Core.List.{List, [], ◌++◌, append-nil}
 use native.Mathlib.Omega.{arith}
 use native.Mathlib.Nat.{zero-add, add-zero}
 use lib.ListN.{get_or}
-use Rattle.answers.specs.declared.Verdict.TheVariants.{Accepted}
+use Rattle.std.specs.Prelude.{Ok}
 use Rattle.answers.specs.Order.{refuse◌if◌else◌}
 use Rattle.registration.specs.declared.Registration.{Registration}
 use Rattle.registration.specs.Rules.{code_at, status_at, count_at}
@@ -13,7 +13,8 @@ use Rattle.registration.specs.Damage.{empty}
 use Rattle.registration.proofs.Bounds.{count_bounds}
 use Rattle.registration.proofs.Damage.{point_bounds}
 use Rattle.registration_text.specs.Lines.{line_g}
-use Rattle.registration_text.specs.Reader.{going, read_g, read_d, read_o, read_text, verdict_of_all}
+use Rattle.registration_text.proofs.Going.{going}
+use Rattle.registration_text.specs.Reader.{read_g, read_d, read_o, read_text, verdict_of_all}
 use Rattle.registration_text.specs.Writer.{lines_d, lines_o, text_of}
 use Rattle.registration_text.proofs.Fronts.{front_none, front_zeros}
 use Rattle.registration_text.proofs.Texts.{text_none__d, text_none__o, text__d, text__o}
@@ -70,11 +71,11 @@ module _ (r : Registration) (right : Right r) where
       ∙ step__o c left (up_to_consumer r c) (said r c) (lines_o r (suc c) left ++ rest) (right.consumer c (omega arith)) (omega (arith, few))
       ∙ rw (next_consumer r c ∙ next__o c (omega arith)) (reads__o (suc c) left end rest (omega arith) h)
 
-  accepts : verdict_of_all r [] ≡ Accepted
+  accepts : verdict_of_all r [] ≡ Ok tt
   unfolding verdict_of_all refuse◌if◌else◌
   accepts = rw (right.differ, right.keys)
 
-  pub reads_all : read_text (text_of r) ≡ record { verdict = Accepted; registration = r }
+  pub reads_all : read_text (text_of r) ≡ Ok r
   unfolding read_text text_of
   reads_all =
       let ds = lines_d r 0 r.producers in

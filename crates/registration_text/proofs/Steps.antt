@@ -10,8 +10,8 @@ use native.Mathlib.Nat.{zero-add}
 use borrow.Author.Tests.{le-ltb, ltb-false, leb-true, lt-ltb, not-false}
 use lib.Dec.{leb, ltb}
 use Rattle.answers.specs.declared.Refusal.TheVariants.{NotInColumns, CodeFalse, CountOutside, StatusOrIterationAbove, ProducerOrKeyWrong}
-use Rattle.answers.specs.declared.Verdict.{Verdict}
-use Rattle.answers.specs.declared.Verdict.TheVariants.{Accepted, Refused}
+use Rattle.answers.specs.Numbers.{Verdict}
+use Rattle.std.specs.Prelude.{Ok, Err}
 use Rattle.answers.specs.Order.{refuse◌if◌else◌}
 use Rattle.answers.proofs.Refusals.{passed}
 use Rattle.columns.specs.Fields.{fitting, nth, is_none}
@@ -26,15 +26,17 @@ use Rattle.registration.proofs.Bounds.{count_bounds, pair_bounds}
 use Rattle.registration.proofs.Damage.{point_bounds}
 use Rattle.registration.proofs.Places.{pairs_same}
 use Rattle.registration_text.specs.Lines.{line_g, letter_g, letter_d, widths_g, widths_d, widths_o, widths_of_pairs}
-use Rattle.registration_text.specs.Reader.{Stage, going, if_accepted, fixed_in, rest_in, verdict_g, verdict_d, verdict_o, source_in, key_in, with_counts, with_point, read_g, read_d, read_o}
+use Rattle.registration_text.proofs.Going.{going, same_going}
+use Rattle.std.specs.Result.{result_and}
+use Rattle.registration_text.specs.Reader.{Stage, fixed_in, rest_in, verdict_g, verdict_d, verdict_o, nth_source, nth_key, with_counts, with_point, read_g, read_d, read_o}
 use Rattle.registration_text.proofs.Named.{pairs_at, pairs_fit}
 use Rattle.registration_text.proofs.ConsumerLine.{Said, fixed_said, pairs_said, line_said, said_by, begins_consumer_read, begins_consumer_written}
 use Rattle.registration_text.proofs.States.{with_one, put_consumer, one_same}
 
 -- a reading that goes on has refused nothing
-going_on : (v : Verdict) (stage : Stage) (r : Registration) (rest : List ℕ) → if_accepted v stage ≡ going r rest → (v ≡ Accepted) × (stage ≡ going r rest)
-going_on Accepted stage r rest e = (refl, e)
-going_on (Refused refusal) stage r rest e = let z : ◌≡◌ {A = ℕ} 0 1 = cc in absurd (omega arith)
+going_on : (v : Verdict) (stage : Stage) (r : Registration) (rest : List ℕ) → result_and v stage ≡ going r rest → (v ≡ Ok tt) × (stage ≡ going r rest)
+going_on (Ok _) stage r rest e = (refl, e)
+going_on (Err refusal) stage r rest e = let z : ◌≡◌ {A = ℕ} 0 1 = cc in absurd (omega arith)
 
 -- ---- G
 
@@ -44,7 +46,7 @@ pub record GroupGood (producers consumers iteration : ℕ) : Type 0 where
   pub iterated : iteration ≤ 1
 
 module _ (producers consumers iteration : ℕ) (good : GroupGood producers consumers iteration) where
-  accepts__g : verdict_g (Some (producers ∷ consumers ∷ iteration ∷ [])) ≡ Accepted
+  accepts__g : verdict_g (Some (producers ∷ consumers ∷ iteration ∷ [])) ≡ Ok tt
   unfolding verdict_g refuse◌if◌else◌
   accepts__g = rw (good.counted, le-ltb 1 iteration good.iterated)
 
@@ -61,7 +63,7 @@ module _ (producers consumers iteration : ℕ) (good : GroupGood producers consu
       let a = begins_read letter_g widths_g (producers ∷ consumers ∷ iteration ∷ []) rest (omega arith) fits__g in
       rw (a.0, a.1, accepts__g)
 
-accepted__g : (numbers : Option (List ℕ)) → verdict_g numbers ≡ Accepted → (is_none numbers ≡ false) × GroupGood (nth 0 numbers) (nth 1 numbers) (nth 2 numbers)
+accepted__g : (numbers : Option (List ℕ)) → verdict_g numbers ≡ Ok tt → (is_none numbers ≡ false) × GroupGood (nth 0 numbers) (nth 1 numbers) (nth 2 numbers)
 unfolding verdict_g
 accepted__g numbers e =
     let a = passed NotInColumns (is_none numbers) _ e in
@@ -81,9 +83,8 @@ read__g text s rest e =
     let numbers = line_in letter_g widths_g (first_line text) in
     let a = going_on (verdict_g numbers) _ s rest e in
     let b = accepted__g numbers a.0 in
-    let q : after_line text ≡ rest = cc a.1 in
-    let p : with_counts (nth 0 numbers) (nth 1 numbers) (nth 2 numbers) ≡ s = cc a.1 in
-    rw (← p, ← q) record { good = b.1; line = begins_written letter_g widths_g text b.0; fresh = refl }
+    let same = same_going (with_counts (nth 0 numbers) (nth 1 numbers) (nth 2 numbers)) s (after_line text) rest a.1 in
+    rw (← same.0, ← same.1) record { good = b.1; line = begins_written letter_g widths_g text b.0; fresh = refl }
 
 -- ---- D
 
@@ -100,7 +101,7 @@ small_code code t =
     omega (arith, leb-true code 999999999999999999 b.1)
 
 module _ (code status : ℕ) (good : PointGood code status) where
-  accepts__d : verdict_d (Some (code ∷ status ∷ [])) ≡ Accepted
+  accepts__d : verdict_d (Some (code ∷ status ∷ [])) ≡ Ok tt
   unfolding verdict_d refuse◌if◌else◌
   accepts__d = rw (le-ltb 3 status good.stated, good.coded)
 
@@ -108,7 +109,7 @@ module _ (code status : ℕ) (good : PointGood code status) where
   unfolding fitting
   fits__d = rw (lt-ltb code 1000000000000000000 (small_code code good.coded), lt-ltb status 10 (omega (arith, good.stated)))
 
-accepted__d : (numbers : Option (List ℕ)) → verdict_d numbers ≡ Accepted → (is_none numbers ≡ false) × PointGood (nth 0 numbers) (nth 1 numbers)
+accepted__d : (numbers : Option (List ℕ)) → verdict_d numbers ≡ Ok tt → (is_none numbers ≡ false) × PointGood (nth 0 numbers) (nth 1 numbers)
 unfolding verdict_d
 accepted__d numbers e =
     let a = passed NotInColumns (is_none numbers) _ e in
@@ -118,7 +119,7 @@ accepted__d numbers e =
 
 module _ (producer left : ℕ) (r : Registration) where
   clause__d : (text : List ℕ) → let numbers = line_in letter_d widths_d (first_line text) in
-      read_d producer (suc left) r text ≡ if_accepted (verdict_d numbers) (read_d (suc producer) left (with_point r producer (nth 0 numbers) (nth 1 numbers)) (after_line text))
+      read_d producer (suc left) r text ≡ result_and (verdict_d numbers) (read_d (suc producer) left (with_point r producer (nth 0 numbers) (nth 1 numbers)) (after_line text))
   unfolding read_d
   clause__d text = refl
 
@@ -161,18 +162,18 @@ pub record ConsumerGood (producers : ℕ) (l : Said) : Type 0 where
 
 module _ (l : Said) where
   -- the numbers and keys in the columns are those of the line
-  source_at_lem : (k : ℕ) → k < l.count → source_in (Some (pairs_said l)) k ≡ l.source k
+  source_at_lem : (k : ℕ) → k < l.count → nth_source (Some (pairs_said l)) k ≡ l.source k
   source_at_lem k h = rw zero-add at (pairs_at l.source l.key 0 l.count k h).0
 
-  key_at_lem : (k : ℕ) → k < l.count → key_in (Some (pairs_said l)) k ≡ l.key k
+  key_at_lem : (k : ℕ) → k < l.count → nth_key (Some (pairs_said l)) k ≡ l.key k
   key_at_lem k h = rw zero-add at (pairs_at l.source l.key 0 l.count k h).1
 
 module _ (producers : ℕ) (l : Said) (good : ConsumerGood producers l) where
-  accepts__o : verdict_o producers (Some (fixed_said l)) (Some (pairs_said l)) ≡ Accepted
+  accepts__o : verdict_o producers (Some (fixed_said l)) (Some (pairs_said l)) ≡ Ok tt
   unfolding verdict_o refuse◌if◌else◌
   accepts__o =
       let ns = Some (pairs_said l) in
-      let same = pairs_same producers l.count (source_in ns) l.source (key_in ns) l.key (source_at_lem l) (key_at_lem l) in
+      let same = pairs_same producers l.count (nth_source ns) l.source (nth_key ns) l.key (source_at_lem l) (key_at_lem l) in
       rw (good.counted, le-ltb 3 l.status good.point.stated, good.point.coded, same ∙ good.paired)
 
   fits__o : fitting widths_o (fixed_said l) ≡ true
@@ -189,11 +190,11 @@ module _ (producers : ℕ) (l : Said) (good : ConsumerGood producers l) where
       pairs_fit l.source l.key 0 l.count
       (λ k h. let small = pair_bounds producers l.count l.source l.key good.paired k h in rw zero-add (omega arith))
 
-accepted__o : (producers : ℕ) (fixed rest : Option (List ℕ)) → verdict_o producers fixed rest ≡ Accepted
+accepted__o : (producers : ℕ) (fixed rest : Option (List ℕ)) → verdict_o producers fixed rest ≡ Ok tt
     → (is_none fixed ≡ false) × (is_none rest ≡ false) × ConsumerGood producers (said_by fixed rest)
 unfolding verdict_o
 accepted__o producers fixed rest e =
-    let paired = pairs_right producers (nth 2 fixed) (source_in rest) (key_in rest) in
+    let paired = pairs_right producers (nth 2 fixed) (nth_source rest) (nth_key rest) in
     let a = passed NotInColumns (is_none fixed) _ e in
     let b = passed CountOutside (not (count_right (nth 2 fixed))) _ a.1 in
     let c = passed NotInColumns (is_none rest) _ b.1 in
@@ -212,7 +213,7 @@ accepted__o producers fixed rest e =
 module _ (consumer left : ℕ) (r : Registration) where
   clause__o : (text : List ℕ) → let fixed = fixed_in (first_line text) in let rest = rest_in (nth 2 fixed) (first_line text) in
       read_o consumer (suc left) r text
-      ≡ if_accepted (verdict_o r.producers fixed rest) (read_o (suc consumer) left (with_one r consumer (said_by fixed rest)) (after_line text))
+      ≡ result_and (verdict_o r.producers fixed rest) (read_o (suc consumer) left (with_one r consumer (said_by fixed rest)) (after_line text))
   unfolding read_o
   clause__o text =
       let fixed = fixed_in (first_line text) in
@@ -225,7 +226,7 @@ module _ (consumer left : ℕ) (r : Registration) where
       let ns = Some (pairs_said l) in
       clause__o _
       ∙ rw (a.0, a.1, a.2, accepts__o r.producers l good)
-      (ap (λ (t : Registration). read_o (suc consumer) left t rest) (one_same r consumer l (source_in ns) (key_in ns) (source_at_lem l) (key_at_lem l)))
+      (ap (λ (t : Registration). read_o (suc consumer) left t rest) (one_same r consumer l (nth_source ns) (nth_key ns) (source_at_lem l) (key_at_lem l)))
 
   -- an O line that has been read
   pub record ReadO (text : List ℕ) (end : Stage) : Type 0 where

@@ -5,7 +5,8 @@ use mathlib.Core.Path.{◌≡◌, refl}
 use mathlib.Core.Bool.{Bool, true, ◌&&◌}
 use mathlib.Core.List.{List, [], ◌∷◌, ◌++◌}
 use lib.Dec.{eqb}
-use lib.ListN.{length, replicate}
+use lib.ListN.{replicate}
+use Rattle.std.specs.Result.{result_unwrap_or}
 use Rattle.answers.specs.Order.{refuse◌if◌else◌}
 use Rattle.answers.specs.Numbers.{answer_of}
 use Rattle.columns.specs.Column.{column_of, lead_of, same_bytes}
@@ -17,7 +18,7 @@ use Rattle.registration.specs.Rules.{pairs_right}
 use Rattle.registration.specs.Damage.{is_damaged}
 use Rattle.registration_text.specs.Lines.{widths_of_pairs, pairs_from}
 use Rattle.registration_text.specs.Reader.{with_point}
-use Rattle.registration_text.specs.Writer.{text_of, lines_d, lines_o, verdict_of_writing, written_if, buffer_after}
+use Rattle.registration_text.specs.Writer.{text_of, lines_d, lines_o, verdict_of_writing, bytes_written, buffer_after}
 use Rattle.registration_text.proofs.Cases.{bytes, g, d1, o1, o2, list, listed}
 
 -- the registration of LIST with status 4 for its producer
@@ -56,8 +57,8 @@ written_right r =
     let out = replicate {A = ℕ} r.room 7 in
     let text = text_of r.registration in
     let verdict = verdict_of_writing r.registration out in
-    let given = written_if verdict (length text) in
-    eqb (answer_of given.verdict) r.answer && eqb given.bytes r.written && same_bytes (buffer_after verdict text out) r.after
+    let written = bytes_written r.registration out in
+    eqb (answer_of written) r.answer && eqb (result_unwrap_or written 0) r.written && same_bytes (buffer_after verdict text out) r.after
 
 -- each row is right
 right : List Row → Bool
@@ -66,5 +67,5 @@ right (r ∷ rest) = written_right r && right rest
 
 -- each is answered as its row says, and leaves the buffer that it says
 answers : right rows ≡ true
-unfolding damaged row rows written_right right bytes g d1 o1 o2 list listed refuse◌if◌else◌ column_of lead_of same_bytes columns_of every differ sum_below is_code weighted pairs_right is_damaged widths_of_pairs pairs_from with_point text_of lines_d lines_o verdict_of_writing
+unfolding damaged row rows written_right right bytes g d1 o1 o2 list listed refuse◌if◌else◌ column_of lead_of columns_of every differ sum_below is_code weighted pairs_right is_damaged widths_of_pairs pairs_from with_point text_of lines_d lines_o verdict_of_writing
 answers = refl

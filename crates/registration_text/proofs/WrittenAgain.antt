@@ -9,8 +9,8 @@ use borrow.Author.Tests.{ltb-false, not-false}
 use lib.Dec.{ltb}
 use lib.ListN.{length}
 use Rattle.answers.specs.declared.Refusal.TheVariants.{NotInColumns, CodeTwice, KeysAbove}
-use Rattle.answers.specs.declared.Verdict.{Verdict}
-use Rattle.answers.specs.declared.Verdict.TheVariants.{Accepted, Refused}
+use Rattle.answers.specs.Numbers.{Verdict}
+use Rattle.std.specs.Prelude.{Ok, Err}
 use Rattle.answers.proofs.Refusals.{passed}
 use Rattle.registration.specs.declared.Registration.{Registration}
 use Rattle.registration.specs.Rules.{points, code_at, status_at, source_at, key_at, codes_differ, keys_right}
@@ -19,7 +19,9 @@ use Rattle.registration.proofs.Bounds.{count_bounds}
 use Rattle.registration.proofs.Damage.{point_bounds}
 use Rattle.registration.proofs.Places.{pairs_same}
 use Rattle.registration_text.specs.Lines.{line_g, line_o}
-use Rattle.registration_text.specs.Reader.{Stage, going, stopped, with_counts, with_point, read_g, read_d, read_o, read_text, verdict_of_all, answered, closing, then_read}
+use Rattle.registration_text.proofs.Going.{going, same_going}
+use Rattle.std.specs.Result.{result_and}
+use Rattle.registration_text.specs.Reader.{Stage, with_counts, with_point, read_g, read_d, read_o, read_text, verdict_of_all, closing, then_read}
 use Rattle.registration_text.specs.Writer.{lines_d, lines_o, text_of}
 use Rattle.registration_text.proofs.Fronts.{by_order, by_equal, front_none}
 use Rattle.registration_text.proofs.Named.{pairs_from_same}
@@ -34,7 +36,7 @@ use Rattle.registration_text.proofs.Rights.{Right}
 
 end__d : (i : ℕ) (s t : Registration) (text rest : List ℕ) → read_d i 0 s text ≡ going t rest → (s ≡ t) × (text ≡ rest)
 unfolding read_d
-end__d i s t text rest e = (cc, cc)
+end__d i s t text rest e = same_going s t text rest e
 
 -- they leave zeros behind the points that they fill
 clean__d : (i left end : ℕ) (s t : Registration) (text rest : List ℕ) → i + left ≡ end → up_to s i 0 0 ≡ s
@@ -73,7 +75,7 @@ module _ (r t : Registration) (end : ℕ) (rest : List ℕ) (most : end ≤ 64) 
 
 end__o : (c : ℕ) (s t : Registration) (text rest : List ℕ) → read_o c 0 s text ≡ going t rest → (s ≡ t) × (text ≡ rest)
 unfolding read_o
-end__o c s t text rest e = (cc, cc)
+end__o c s t text rest e = same_going s t text rest e
 
 clean__o : (c left end : ℕ) (s t : Registration) (text rest : List ℕ) → c + left ≡ end → up_to_consumer s c ≡ s
     → read_o c left s text ≡ going t rest → up_to_consumer t end ≡ t
@@ -144,7 +146,7 @@ unfolding empty
 fresh_clean producers consumers iteration = rw (front_none 64, front_none 320)
 
 -- nothing is left, all codes differ, and no producer's keys sum to too much
-accepted_all : (r : Registration) (rest : List ℕ) → verdict_of_all r rest ≡ Accepted → (rest ≡ []) × (codes_differ r ≡ true) × (keys_right r ≡ true)
+accepted_all : (r : Registration) (rest : List ℕ) → verdict_of_all r rest ≡ Ok tt → (rest ≡ []) × (codes_differ r ≡ true) × (keys_right r ≡ true)
 unfolding verdict_of_all
 accepted_all r rest e =
     let a = passed NotInColumns (ltb 0 (length rest)) _ e in
@@ -158,7 +160,7 @@ accepted_all r rest e =
 
 -- a text of which G gave s, the D lines gave t, and the O lines gave r
 module _ (text u v rest : List ℕ) (s t r : Registration) (e : read_g text ≡ going s u) (f : read_d 0 s.producers s u ≡ going t v)
-    (h : read_o 0 t.consumers t v ≡ going r rest) (accepted : verdict_of_all r rest ≡ Accepted) where
+    (h : read_o 0 t.consumers t v ≡ going r rest) (accepted : verdict_of_all r rest ≡ Ok tt) where
   group : ReadG text s u
   group = read__g text s u e
 
@@ -255,26 +257,24 @@ record Went (stage : Stage) (next : Registration → List ℕ → Stage) (end : 
 
 went_on : (stage : Stage) (next : Registration → List ℕ → Stage) (r : Registration) (rest : List ℕ) → then_read stage next ≡ going r rest
     → Went stage next (going r rest)
-went_on (stopped refusal) next r rest e = let z : ◌≡◌ {A = ℕ} 0 1 = cc in absurd (omega arith)
-went_on (going s text) next r rest e = record { state = s; left = text; here = refl; on = e }
+went_on (Err refusal) next r rest e = let z : ◌≡◌ {A = ℕ} 0 1 = cc in absurd (omega arith)
+went_on (Ok read) next r rest e = record { state = read.0; left = read.1; here = refl; on = e }
 
--- an accepted answer holds what was read
-record Closed (stage : Stage) : Type 0 where
-  state : Registration
+-- a text that is read gives what was read
+record Closed (stage : Stage) (r : Registration) : Type 0 where
   left : List ℕ
-  here : stage ≡ going state left
-  accepted : verdict_of_all state left ≡ Accepted
-  answer : (closing stage).registration ≡ state
+  here : stage ≡ going r left
+  accepted : verdict_of_all r left ≡ Ok tt
 
-answered_is : (v : Verdict) (r : Registration) → (answered v r).verdict ≡ Accepted → (v ≡ Accepted) × ((answered v r).registration ≡ r)
-answered_is Accepted r e = (refl, refl)
-answered_is (Refused refusal) r e = let z : ◌≡◌ {A = ℕ} 0 1 = cc in absurd (omega arith)
+accepted_is : (v : Verdict) (s r : Registration) → result_and v (Ok s) ≡ Ok r → (v ≡ Ok tt) × (s ≡ r)
+accepted_is (Ok _) s r e = (refl, cc)
+accepted_is (Err refusal) s r e = let z : ◌≡◌ {A = ℕ} 0 1 = cc in absurd (omega arith)
 
-closed_by : (stage : Stage) → (closing stage).verdict ≡ Accepted → Closed stage
-closed_by (stopped refusal) e = let z : ◌≡◌ {A = ℕ} 0 1 = cc in absurd (omega arith)
-closed_by (going r text) e =
-    let a = answered_is (verdict_of_all r text) r e in
-    record { state = r; left = text; here = refl; accepted = a.0; answer = a.1 }
+closed_by : (stage : Stage) (r : Registration) → closing stage ≡ Ok r → Closed stage r
+closed_by (Err refusal) r e = let z : ◌≡◌ {A = ℕ} 0 1 = cc in absurd (omega arith)
+closed_by (Ok read) r e =
+    let a = accepted_is (verdict_of_all read.0 read.1) read.0 r e in
+    record { left = read.1; here = rw (← a.1) refl; accepted = rw (← a.1) a.0 }
 
 -- the text read up to the last D line, and up to the last O line
 abbrev read_up_to_d : List ℕ → Stage
@@ -283,14 +283,12 @@ read_up_to_d text = then_read (read_g text) (λ r rest. read_d 0 r.producers r r
 abbrev read_up_to_o : List ℕ → Stage
 read_up_to_o text = then_read (read_up_to_d text) (λ r rest. read_o 0 r.consumers r rest)
 
-pub sound_read : (text : List ℕ) → (read_text text).verdict ≡ Accepted
-    → Right (read_text text).registration × (text_of (read_text text).registration ≡ text)
+pub sound_read : (text : List ℕ) (r : Registration) → read_text text ≡ Ok r → Right r × (text_of r ≡ text)
 unfolding read_text
-sound_read text e =
-    let c = closed_by (read_up_to_o text) e in
-    let o = went_on (read_up_to_d text) _ c.state c.left c.here in
-    let d = went_on (read_g text) _ o.state o.left o.here in
-    rw c.answer (
-      right_read text d.left o.left c.left d.state o.state c.state d.here d.on o.on c.accepted,
-      text_read text d.left o.left c.left d.state o.state c.state d.here d.on o.on c.accepted,
+sound_read text r e =
+    let c = closed_by (read_up_to_o text) r e in
+    let o = went_on (read_up_to_d text) _ r c.left c.here in
+    let d = went_on (read_g text) _ o.state o.left o.here in (
+      right_read text d.left o.left c.left d.state o.state r d.here d.on o.on c.accepted,
+      text_read text d.left o.left c.left d.state o.state r d.here d.on o.on c.accepted,
     )

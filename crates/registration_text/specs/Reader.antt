@@ -1,9 +1,9 @@
 -- Reading a registration's text: G, the D lines, the O lines in turn, then what concerns the whole. Each order of refusals is one chain. Assumes nothing.
-use Rattle.std.specs.Prelude.{ℕ, zero, suc, ◌+◌, ◌*◌, cond, not, ◌&&◌, List, length, get_or, set, drop, leb, ltb, eqb, Option, None}
+use Rattle.std.specs.Prelude.{ℕ, zero, suc, ◌+◌, ◌*◌, cond, not, ◌&&◌, List, length, get_or, set, drop, leb, ltb, eqb, Option, None, Result, Ok, Err}
+use Rattle.std.specs.Result.{result_and}
 use Rattle.answers.specs.declared.Refusal.{Refusal}
 use Rattle.answers.specs.declared.Refusal.TheVariants.{NotInColumns, CodeFalse, CountOutside, CodeTwice, StatusOrIterationAbove, ProducerOrKeyWrong, KeysAbove}
-use Rattle.answers.specs.declared.Verdict.{Verdict}
-use Rattle.answers.specs.declared.Verdict.TheVariants.{Accepted, Refused}
+use Rattle.answers.specs.Numbers.{Verdict}
 use Rattle.answers.specs.Order.{refuse◌if◌else◌}
 use Rattle.columns.specs.Fields.{numbers_in, nth, is_none}
 use Rattle.lines.specs.Line.{first_line, after_line}
@@ -12,7 +12,6 @@ use Rattle.registration.specs.declared.Registration.{Registration}
 use Rattle.registration.specs.Code.{is_code}
 use Rattle.registration.specs.Rules.{point_counts_right, count_right, pairs_right, codes_differ, keys_right}
 use Rattle.registration.specs.Damage.{empty}
-use Rattle.registration_text.specs.declared.Answer.{Answer}
 use Rattle.registration_text.specs.Lines.{letter_g, letter_d, letter_o, widths_g, widths_d, widths_o, widths_of_pairs}
 
 -- ---- one line
@@ -34,7 +33,7 @@ verdict_g numbers =
     refuse NotInColumns if is_none numbers else
     refuse CountOutside if not (point_counts_right (nth 0 numbers) (nth 1 numbers)) else
     refuse StatusOrIterationAbove if ltb 1 (nth 2 numbers) else
-    Accepted
+    Ok tt
 
 -- D: 1, 5, 2
 unfoldable pub verdict_d : Option (List ℕ) → Verdict
@@ -42,15 +41,15 @@ verdict_d numbers =
     refuse NotInColumns if is_none numbers else
     refuse StatusOrIterationAbove if ltb 3 (nth 1 numbers) else
     refuse CodeFalse if not (is_code (nth 0 numbers)) else
-    Accepted
+    Ok tt
 
 -- a producer's number on an O line, by priority
-abbrev pub source_in : Option (List ℕ) → ℕ → ℕ
-source_in rest priority = nth (2 * priority) rest
+abbrev pub nth_source : Option (List ℕ) → ℕ → ℕ
+nth_source rest priority = nth (2 * priority) rest
 
 -- a key on an O line, by priority
-abbrev pub key_in : Option (List ℕ) → ℕ → ℕ
-key_in rest priority = nth (2 * priority + 1) rest
+abbrev pub nth_key : Option (List ℕ) → ℕ → ℕ
+nth_key rest priority = nth (2 * priority + 1) rest
 
 -- O: 1 for the fixed part, 3, 1 for the rest, 5, 2, 6
 unfoldable pub verdict_o : ℕ → Option (List ℕ) → Option (List ℕ) → Verdict
@@ -60,8 +59,8 @@ verdict_o producers fixed rest =
     refuse NotInColumns if is_none rest else
     refuse StatusOrIterationAbove if ltb 3 (nth 1 fixed) else
     refuse CodeFalse if not (is_code (nth 0 fixed)) else
-    refuse ProducerOrKeyWrong if not (pairs_right producers (nth 2 fixed) (source_in rest) (key_in rest)) else
-    Accepted
+    refuse ProducerOrKeyWrong if not (pairs_right producers (nth 2 fixed) (nth_source rest) (nth_key rest)) else
+    Ok tt
 
 -- ---- what the lines put into the registration
 
@@ -131,45 +130,39 @@ with_pairs r consumer source key priority (suc count) =
 abbrev pub with_consumer : Registration → ℕ → Option (List ℕ) → Option (List ℕ) → Registration
 with_consumer r consumer fixed rest =
     with_pairs (with_count (with_point r (r.producers + consumer) (nth 0 fixed) (nth 1 fixed)) consumer (nth 2 fixed))
-    consumer (source_in rest) (key_in rest) 0 (nth 2 fixed)
+    consumer (nth_source rest) (nth_key rest) 0 (nth 2 fixed)
 
 -- ---- the lines in turn
 
--- the reading stopped by a refusal, or going on with what has been read so far and the text that is left
-pub data Stage : Type 0 where
-  stopped : Refusal → Stage
-  going : Registration → List ℕ → Stage
-
--- the reading goes on to the next stage if a line is accepted; a refused line stops it
-abbrev pub if_accepted : Verdict → Stage → Stage
-if_accepted Accepted stage = stage
-if_accepted (Refused refusal) stage = stopped refusal
+-- the reading stopped by a refusal, or what has been read so far and the text that is left
+abbrev pub Stage : Type 0
+Stage = Result (Registration × List ℕ) Refusal
 
 -- the next lines are read where the reading was not stopped
 abbrev pub then_read : Stage → (Registration → List ℕ → Stage) → Stage
-then_read (stopped refusal) next = stopped refusal
-then_read (going r text) next = next r text
+then_read (Err refusal) next = Err refusal
+then_read (Ok read) next = next read.0 read.1
 
 -- the G line
 unfoldable pub read_g : List ℕ → Stage
 read_g text =
     let numbers = line_in letter_g widths_g (first_line text) in
-    if_accepted (verdict_g numbers) (going (with_counts (nth 0 numbers) (nth 1 numbers) (nth 2 numbers)) (after_line text))
+    result_and (verdict_g numbers) (Ok (with_counts (nth 0 numbers) (nth 1 numbers) (nth 2 numbers), after_line text))
 
 -- the D lines of so many producers from one on
 unfoldable pub read_d : ℕ → ℕ → Registration → List ℕ → Stage
-read_d producer zero r text = going r text
+read_d producer zero r text = Ok (r, text)
 read_d producer (suc left) r text =
     let numbers = line_in letter_d widths_d (first_line text) in
-    if_accepted (verdict_d numbers) (read_d (suc producer) left (with_point r producer (nth 0 numbers) (nth 1 numbers)) (after_line text))
+    result_and (verdict_d numbers) (read_d (suc producer) left (with_point r producer (nth 0 numbers) (nth 1 numbers)) (after_line text))
 
 -- the O lines of so many consumers from one on
 unfoldable pub read_o : ℕ → ℕ → Registration → List ℕ → Stage
-read_o consumer zero r text = going r text
+read_o consumer zero r text = Ok (r, text)
 read_o consumer (suc left) r text =
     let fixed = fixed_in (first_line text) in
     let rest = rest_in (nth 2 fixed) (first_line text) in
-    if_accepted (verdict_o r.producers fixed rest) (read_o (suc consumer) left (with_consumer r consumer fixed rest) (after_line text))
+    result_and (verdict_o r.producers fixed rest) (read_o (suc consumer) left (with_consumer r consumer fixed rest) (after_line text))
 
 -- then 1 for extra text, 4, 7
 unfoldable pub verdict_of_all : Registration → List ℕ → Verdict
@@ -177,20 +170,15 @@ verdict_of_all r text =
     refuse NotInColumns if ltb 0 (length text) else
     refuse CodeTwice if not (codes_differ r) else
     refuse KeysAbove if not (keys_right r) else
-    Accepted
+    Ok tt
 
--- the answer: a verdict, and the registration, of zeros where it is refused
-abbrev pub answered : Verdict → Registration → Answer
-answered Accepted r = record { verdict = Accepted; registration = r }
-answered (Refused refusal) r = record { verdict = Refused refusal; registration = empty }
-
--- the answer once the reading has stopped or all lines were read
-abbrev pub closing : Stage → Answer
-closing (stopped refusal) = answered (Refused refusal) empty
-closing (going r text) = answered (verdict_of_all r text) r
+-- the registration once all lines were read, unless the reading was stopped or the whole is refused
+abbrev pub closing : Stage → Result Registration Refusal
+closing (Err refusal) = Err refusal
+closing (Ok read) = result_and (verdict_of_all read.0 read.1) (Ok read.0)
 
 -- a registration's text, read
-unfoldable pub read_text : List ℕ → Answer
+unfoldable pub read_text : List ℕ → Result Registration Refusal
 read_text text =
     closing
     (then_read (then_read (read_g text) (λ r rest. read_d 0 r.producers r rest)) (λ r rest. read_o 0 r.consumers r rest))
