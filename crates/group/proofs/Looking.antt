@@ -1,7 +1,8 @@
 -- What the tests of a submission rest on: what holds of a group that is not damaged. Assumes nothing.
-use Rattle.std.proofs.Common.{ℕ, ◌*◌, ◌-◌, ◌≤◌, ◌<◌, ◌≡◌, true, false, not, ◌&&◌, leb, eqb, List, length, nat_abs, Ok, Err, None, Some, arith}
+use Rattle.std.proofs.Common.{ℕ, ◌*◌, ◌-◌, ◌≤◌, ◌<◌, ◌≡◌, true, false, not, ◌&&◌, leb, eqb, List, length, nat_abs, Ok, Err, None, Some, Result, arith}
 use borrow.Author.Tests.{eq-eqb, ne_eqb}
 use Rattle.std.proofs.lemmas.Grind.{common_steps}
+use Rattle.answers.specs.declared.Refusal.{Refusal}
 use Rattle.answers.specs.declared.Refusal.TheVariants.{ValueWrong, ClockOutside, JournalFull}
 use Rattle.answers.specs.Numbers.{with_value}
 use Rattle.answers.proofs.Refusals.{order}
@@ -13,9 +14,11 @@ use Rattle.calendar.specs.Dates.{last_day}
 use Rattle.calendar.specs.Quarters.{quarter_exists}
 use Rattle.calendar.proofs.Laws.{exists_day, exists_quarter}
 use Rattle.registration.specs.declared.Registration.{Registration}
-use Rattle.journal.specs.Value.{value_in}
-use Rattle.journal.specs.Readings.{shown}
+use Rattle.journal.specs.Value.{value_of, value_in, stored_of}
+use Rattle.journal.specs.Readings.{shown, stamp_of}
+use Rattle.lists.proofs.Cases.{by_test}
 use Rattle.journal.proofs.Stored.{length_entries}
+use Rattle.group.specs.declared.Looked.{Looked}
 use Rattle.group.specs.declared.Looked.TheVariants.{Repeat, New}
 use Rattle.group.specs.Working.{looked_of}
 use Rattle.group.specs.declared.Numbers.{Numbers}
@@ -104,3 +107,17 @@ module _ (last : ℕ) (G : Group) (clock : ℕ) (m : Measurement) (k : Suiting l
         → place ≡ place_for G m.code m.day m.quarter → stored ≡ nat_abs m.value
         → Ok (New stamp place stored) ≡ with_value (submission_verdict last G clock m) (looked_of last G clock m)
     look_new h stamp place stored s p v = rw (has_room h, n, s, p, v)
+
+-- what is looked up tells whether the submission is a repeat, and what it gives
+module _ (last : ℕ) (G : Group) (clock : ℕ) (m : Measurement) where
+  pub repeat_told : (stamp : ℕ) → Repeat stamp ≡ looked_of last G clock m → (repeats last G m ≡ true) × (stamp ≡ stamp_of (shown last (readings_for G m)))
+  repeat_told stamp e = by_test (repeats last G m) (λ t. (t, cc (rw t at e))) (λ t. cc (rw t at e))
+
+  pub new_told : (stamp place stored : ℕ) → New stamp place stored ≡ looked_of last G clock m
+      → (repeats last G m ≡ false) × (stamp ≡ next_stamp clock last) × (place ≡ place_for G m.code m.day m.quarter) × (stored ≡ stored_of (value_of m))
+  new_told stamp place stored e = by_test (repeats last G m) (λ t. cc (rw t at e)) (λ t. (t, cc (rw t at e), cc (rw t at e), cc (rw t at e)))
+
+-- what is looked up in one group is looked up in an equal one
+pub look_same : {r : Result Looked Refusal} (last last' : ℕ) (G G' : Group) (clock : ℕ) (m : Measurement) → (G' ≡ G) × (last' ≡ last)
+    → r ≡ with_value (submission_verdict last' G' clock m) (looked_of last' G' clock m) → r ≡ with_value (submission_verdict last G clock m) (looked_of last G clock m)
+look_same last last' G G' clock m e h = rw (e.0, e.1) at h

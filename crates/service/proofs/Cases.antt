@@ -4,15 +4,14 @@ use mathlib.Core.Path.{◌≡◌, refl}
 use mathlib.Core.List.{◌∷◌}
 use lib.ListN.{replicate}
 use Rattle.lists.specs.Below.{every, sum_below, differ}
-use Rattle.answers.specs.Numbers.{Verdict}
 use Rattle.std.specs.Prelude.{Ok, Err}
 use Rattle.answers.specs.declared.Refusal.TheVariants.{Damaged}
 use Rattle.answers.specs.Order.{refuse◌if◌else◌}
 use Rattle.registration.specs.declared.Registration.{Registration}
 use Rattle.registration.specs.Code.{is_code, weighted}
 use Rattle.registration.specs.Rules.{pairs_right}
-use Rattle.registration.specs.Damage.{is_damaged, empty}
-use Rattle.service.specs.declared.Fresh.{Fresh}
+use Rattle.registration.specs.Damage.{is_damaged}
+use Rattle.service.specs.declared.Service.{Service}
 use Rattle.service.specs.Promises.{fresh_of}
 
 -- one producer of this status, which supplies one consumer by this key
@@ -29,31 +28,13 @@ pair status key =
       keys = key ∷ replicate 319 0;
     }
 
--- an answer with this verdict and registration, and with zeros for the last stamp, the kept stamp, the kept day and the entry count
-abbrev answer : Verdict → Registration → Fresh
-answer verdict r =
-    record {
-      verdict = verdict;
-      service = record { registration = r; state = record { last = 0; numbers = record { kept_stamp = 0; kept_day = 0; entries = 0 } } };
-    }
-
--- a registration with nothing but zeros
-zeros : Registration
-zeros =
-    record {
-      producers = 0;
-      consumers = 0;
-      iteration = 0;
-      codes = replicate 64 0;
-      statuses = replicate 64 0;
-      counts = replicate 64 0;
-      sources = replicate 320 0;
-      keys = replicate 320 0;
-    }
+-- the record with this registration, and with zeros for the last stamp, the kept stamp, the kept day and the entry count
+abbrev made : Registration → Service
+made r = record { registration = r; state = record { last = 0; numbers = record { kept_stamp = 0; kept_day = 0; entries = 0 } } }
 
 -- a status of 4 and a key of 10001 are damage, and nothing of the registration is given back; a status of 3 and a key of 10000 are not
-fresh : (fresh_of (pair 4 10000) ≡ answer (Err Damaged) zeros)
-    × (fresh_of (pair 3 10001) ≡ answer (Err Damaged) zeros)
-    × (fresh_of (pair 3 10000) ≡ answer (Ok tt) (pair 3 10000))
-unfolding pair zeros empty is_damaged every sum_below differ pairs_right is_code weighted refuse◌if◌else◌
+fresh : (fresh_of (pair 4 10000) ≡ Err Damaged)
+    × (fresh_of (pair 3 10001) ≡ Err Damaged)
+    × (fresh_of (pair 3 10000) ≡ Ok (made (pair 3 10000)))
+unfolding pair is_damaged every sum_below differ pairs_right is_code weighted refuse◌if◌else◌
 fresh = (refl, refl, refl)

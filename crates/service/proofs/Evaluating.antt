@@ -34,4 +34,4 @@ pub evaluation_alters_nothing : EvaluationAltersNothing
 unfolding call_on step
 evaluation_alters_nothing s j day quarter T lent =
     either_same s j day quarter T lent (evaluation_verdict s.state.last (group_of s j) day quarter T lent)
-    (λ e. (evaluation_asked s j day quarter T lent e).2)
+    (λ e. (evaluation_asked s j (record { day = day; quarter = quarter; until = T }) lent e).2)

@@ -3,10 +3,9 @@ pub mod Leaves
 pub mod Staying
 pub mod ReadAgain
 pub mod Laws
-pub mod Begun
 pub mod Own
+pub mod Returned
 pub mod Cores
 pub mod Evaluating
 pub mod Others
 pub mod Cases
-pub mod Returned

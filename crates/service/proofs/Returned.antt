@@ -27,7 +27,7 @@ use Rattle.service.specs.Calls.{submitted, cleared, evaluated, when_accepted, st
 use Rattle.service.specs.Record.{group_of, call_on}
 use Rattle.group.proofs.Admitted.{admitted, clearing, evaluating}
 use Rattle.service.proofs.ReadAgain.{through}
-use Rattle.group.proofs.Looking.{never_accepted}
+
 
 -- what is shown as of T has a stamp of at most T
 stamp_shown : (T : ℕ) (rs : List Reading) (o : Option Reading) → ShowsNewest T rs o → stamp_of o ≤ T
@@ -44,7 +44,7 @@ module _ (last : ℕ) (G : Group) (lent : List ℕ) (after : After) where
   result_when_accepted : (verdict : Verdict) (r : Registration) → (verdict ≡ Ok tt → ResultWithin r after.seen.result)
       → (when_accepted verdict last G lent after).seen.verdict ≡ Ok tt → ResultWithin r (when_accepted verdict last G lent after).seen.result
   result_when_accepted (Ok _) r h e = h refl
-  result_when_accepted (Err refusal) r h e = never_accepted refusal e
+  result_when_accepted (Err refusal) r h e = cc
 
 -- the stamp of an accepted submission
 submitted_number : (last : ℕ) (G : Group) (clock : ℕ) (m : Measurement) → submission_verdict last G clock m ≡ Ok tt
