@@ -28,7 +28,7 @@ unfolding refuse◌if◌else◌
 first b later e k = rw e k
 
 -- acceptance is no refusal
-accepted : (Ok tt) ≢ Err Damaged
+accepted : ◌≢◌ {A = Verdict} (Ok tt) (Err Damaged)
 accepted e = omega (arith, ap answer_of e)
 
 -- the three orders of refusals, of an undamaged group
