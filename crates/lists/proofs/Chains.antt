@@ -1,5 +1,6 @@
 -- What holds of each number below n, by its index, said of the list of the first n. Assumes nothing.
-use Prim.Native.Nat.{ℕ, zero, suc, ◌+◌, ◌≤◌, ◌<◌}
+use Prim.Native.Nat.{ℕ, zero, suc, ◌+◌, ◌-◌, ◌≤◌, ◌<◌}
+use lib.Dec.{ltb}
 use mathlib.Core.Path.{◌≡◌, refl, sym, ap, ◌∙◌}
 use mathlib.Core.Bool.{Bool, true, false, not, ◌&&◌, ◌||◌}
 use mathlib.Core.List.{List, [], ◌∷◌}
@@ -9,11 +10,12 @@ use lib.ListN.{length, take, drop, get_or, length-drop}
 use Rattle.std.specs.List.{list_all, list_any}
 use Rattle.std.proofs.lemmas.List.{take_all}
 use Rattle.std.proofs.lemmas.List.Folds.{list_all_more, list_any_more}
-use Rattle.std.proofs.lemmas.List.{get_or-take}
+use borrow.Author.Tests.{le-ltb}
+use Rattle.std.proofs.lemmas.List.{get_or-take, get_or-drop}
 use lib.Seq.{take-suc, length-take-le}
 use Rattle.lists.specs.Below.{every, differ}
 use Rattle.lists.specs.Tables.{joined, table}
-use Rattle.lists.proofs.Below.{differ_same}
+use Rattle.lists.proofs.Below.{every_same, every_then, from_begin, differ_same}
 
 nor : (a b : Bool) → not (a || b) ≡ not a && not b
 nor true b = refl
@@ -36,6 +38,20 @@ module _ {A : Type 0} (test : A → Bool) (list : List A) (past : A) where
   -- and of each element of a list
   pub every_whole : every (λ i. test (get_or list i past)) (length list) ≡ list_all test list
   every_whole = every_take (length list) (omega arith) ∙ rw (take_all (length list) list (omega arith))
+
+-- a test of each element from place n on
+pub every_drop : {A : Type 0} (test : A → Bool) (list : List A) (past : A) (n : ℕ) → n ≤ length list
+    → every (λ i. ltb i n || test (get_or list i past)) (length list) ≡ list_all test (drop n list)
+every_drop test list past n h =
+    let more = length list - n in
+    let rest : length (drop n list) ≡ more = length-drop n list in
+    let size : n + more ≡ length list = omega arith in
+    let f = λ (i : ℕ). ltb i n || test (get_or list i past) in
+    let later : every (λ i. f (n + i)) more ≡ list_all test (drop n list) =
+    every_same (λ i. f (n + i)) (λ i. test (get_or (drop n list) i past)) more
+    (λ i l. rw (le-ltb (n + i) n (omega arith)) (ap test (sym (get_or-drop n list i past))))
+    ∙ rw rest at (every_whole test (drop n list) past) in
+    ap (every f) (sym size) ∙ every_then f n more ∙ rw (from_begin n (λ i. test (get_or list i past))) later
 
 -- the first n numbers: as a table, and whether they differ
 module _ (list : List ℕ) where

@@ -1,18 +1,15 @@
--- `registration_damage::codes_true` meets its contract: every code before this point is true. Assumes nothing.
-use mathlib.Core.Path.{sym, ◌∙◌}
-use borrow.Author.Tests.{not-true, not-false}
-use Rattle.lists.proofs.Below.{every_none, every_next, every_stop, every_done}
-use native.Mathlib.Omega.{arith}
+-- `registration_damage::codes_true` meets its contract: the test of the first codes, by their places. Assumes nothing.
+use Rattle.std.proofs.Common.{rules, tests, ◌≡◌, ◌∙◌, sym, arith, take, length}
+use Rattle.std.proofs.lemmas.Iterator.{YieldsList-from_slice}
+use Rattle.std.proofs.lemmas.Iterator.Search.{all_from_yields_List}
+use Rattle.registration.specs.Code.{is_code}
+use Rattle.registration.specs.Rules.{points}
+use Rattle.lists.proofs.Chains.{every_take}
 use Rattle.registration_damage.proofs.codes_true.Goals as goal
 
-pub loop-point-init : goal.loop-point-init
-loop-point-init c = every_none _
-
-pub returns-then-not-code_true : goal.returns-then-not-code_true
-returns-then-not-code_true c = every_stop _ _ c.loop-point.point (omega arith) (sym c.code_true.ensures ∙ not-true _ c.if-not-code_true.true-raw)
-
-pub loop-point-preserved : goal.loop-point-preserved
-loop-point-preserved c = every_next _ _ c.loop-point.invariant (sym c.code_true.ensures ∙ not-false _ c.if-not-code_true.false-raw)
-
 pub returns : goal.returns
-returns c = every_done _ _ c.loop-point.point (omega arith) c.loop-point.invariant
+returns c =
+    let r = c.args.registration.now in
+    let l : length r.codes ≡ 64 = search rules in
+    all_from_yields_List is_code _ _ _ c.all.ensures.ran (YieldsList-from_slice (take (points r) r.codes) cc) (λ x b q k. search (rules, tests))
+    ∙ sym (every_take is_code r.codes 0 (points r) (omega arith))

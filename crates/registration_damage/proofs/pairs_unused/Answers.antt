@@ -1,23 +1,30 @@
--- `registration_damage::pairs_unused` meets its contract: every consumer before this one has zeros in its unused places. Assumes nothing.
-use mathlib.Core.Path.{sym, ◌∙◌}
-use borrow.Author.Tests.{not-true, not-false}
-use Rattle.lists.proofs.Below.{every_none, every_next, every_stop, every_done}
+-- `registration_damage::pairs_unused` meets its contract: every place of the consumer after those that it uses and before this one holds zeros. Assumes nothing.
+use mathlib.Core.Path.{ap, sym, ◌∙◌}
 use native.Mathlib.Omega.{arith}
+use borrow.Author.Tests.{eq-eqb, ne_eqb}
+use Rattle.registration.specs.declared.Pair.{Pair}
+use Rattle.registration.specs.Rules.{count_at}
+use Rattle.lists.proofs.Below.{every_done, from_begin, from_stop, from_next, and_both, and_early, and_late}
 use Rattle.registration_damage.proofs.pairs_unused.Goals as goal
+use Rattle.registration_damage.proofs.pairs_unused.Goals.{then-pair-ne0-via-then-pair-ne0, then-pair-ne0-via-else-pair-ne0+then-pair-ne0-2}
 
-pub loop-consumer-init : goal.loop-consumer-init
-loop-consumer-init c = every_none _
+pub loop-priority-init : goal.loop-priority-init
+loop-priority-init c = rw c.from-priority.ensures (from_begin _ _)
 
-pub returns-then-not-places_unused : goal.returns-then-not-places_unused
-returns-then-not-places_unused c =
-    let count = c.byte_number-count.ensures.0 in
-    every_stop _ _ c.loop-consumer.consumer (omega arith)
-    (rw (← count) (sym c.places_unused.ensures ∙ not-true _ c.if-not-places_unused.true-raw))
+pub returns-then-pair-ne0 : goal.returns-then-pair-ne0
+returns-then-pair-ne0 c =
+    let pair = c.pair-pair.ensures in
+    let fails = from_stop (count_at c.args.registration.now c.args.consumer) _ 5 c.loop-priority.priority (omega arith) (omega arith) in
+    elim c.then-pair-ne0.branch [
+      | then-pair-ne0-via-then-pair-ne0 w ↦ fails (and_early _ _ (ne_eqb _ _ (λ e. w.if-pair-ne0.true (ap (λ (pair : Pair). pair.source) pair ∙ e))))
+      | then-pair-ne0-via-else-pair-ne0+then-pair-ne0-2 w ↦ fails (and_late _ _ (ne_eqb _ _ (λ e. w.if-pair-ne0-2.true (ap (λ (pair : Pair). pair.key) pair ∙ e))))
+    ]
 
-pub loop-consumer-preserved : goal.loop-consumer-preserved
-loop-consumer-preserved c =
-    let count = c.byte_number-count.ensures.0 in
-    every_next _ _ c.loop-consumer.invariant (rw (← count) (sym c.places_unused.ensures ∙ not-false _ c.if-not-places_unused.false-raw))
+pub loop-priority-preserved : goal.loop-priority-preserved
+loop-priority-preserved c =
+    let pair = c.pair-pair.ensures in
+    from_next _ _ _ c.loop-priority.invariant
+    (and_both _ _ (eq-eqb _ _ (sym (ap (λ (pair : Pair). pair.source) pair) ∙ c.if-pair-ne0.false)) (eq-eqb _ _ (sym (ap (λ (pair : Pair). pair.key) pair) ∙ c.if-pair-ne0-2.false)))
 
 pub returns : goal.returns
-returns c = every_done _ _ c.loop-consumer.consumer (omega arith) c.loop-consumer.invariant
+returns c = every_done _ _ c.loop-priority.priority (omega arith) c.loop-priority.invariant
