@@ -6,7 +6,7 @@ use Rattle.journal.specs.Readings.{shown}
 use Rattle.lookup.specs.Mean.{sum_of, nearest}
 use Rattle.lookup.specs.Earlier.{earlier}
 use Rattle.lookup.specs.declared.PointValue.{PointValue}
-use Rattle.lookup.specs.Substitutes.{existing, looked_up}
+use Rattle.lookup.specs.Substitutes.{number_of_origin, existing, looked_up}
 
 -- a reading of the point
 record Read : Type 0 where
@@ -27,21 +27,24 @@ readings_in (read ∷ reads) day quarter =
     (record { stamp = read.stamp; value = record { magnitude = read.magnitude } } ∷ readings_in reads day quarter)
     (readings_in reads day quarter)
 
--- the status of the point, the day, its readings, and the value and origin that the paper gives
+-- the status of the point, the day, its readings, and the value and the number of its origin that the paper gives
 record Row : Type 0 where
   status : ℕ
   day : ℕ
   reads : List Read
-  value : PointValue
+  value : ℕ × ℕ
 
 -- a row
 abbrev row : (status day : ℕ) → List Read → (magnitude origin : ℕ) → Row
-row status day reads magnitude origin =
-    record { status = status; day = day; reads = reads; value = record { magnitude = magnitude; origin = origin } }
+row status day reads magnitude origin = record { status = status; day = day; reads = reads; value = (magnitude, origin) }
 
--- the value and origin of the definitions
-abbrev computed : Row → PointValue
-computed row = looked_up row.status (readings_in row.reads) row.day 40 1000
+-- a value with the number of its origin
+abbrev numbered : PointValue → ℕ × ℕ
+numbered value = (value.magnitude, number_of_origin value.origin)
+
+-- the value and the number of the origin of the definitions
+abbrev computed : Row → ℕ × ℕ
+computed row = numbered (looked_up row.status (readings_in row.reads) row.day 40 1000)
 
 -- one reading alone: 7, 14, 21 or 28 days before it is the substitute, on any other day, at another quarter number or with a later stamp it is not
 single : List Row

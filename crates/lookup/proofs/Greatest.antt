@@ -6,7 +6,8 @@ use Rattle.calendar.specs.Quarters.{quarter_exists}
 use Rattle.journal.specs.Value.{stored_right}
 use Rattle.journal.specs.Order.{Reading, weaker}
 use Rattle.journal.specs.Readings.{join, strongest, as_of, shown, value_shown}
-use Rattle.journal.specs.Entries.{Entry, point_in, day_in, quarter_in, readings_at}
+use Rattle.journal.specs.declared.Entry.{Entry}
+use Rattle.journal.specs.Entries.{point_in, day_in, quarter_in, readings_at}
 use Rattle.journal.specs.Damage.{entry_right, entries_right}
 use Rattle.journal.proofs.RightEntries.{all4, parts}
 use Rattle.values.specs.Values.{magnitude_most}

@@ -10,9 +10,7 @@ pub mod Own
 pub mod Earlier
 pub mod Sought
 pub mod Apart
-pub mod NearEnd
 pub mod Passing
-pub mod Filling
 pub mod Alike
 pub mod Greatest
 pub mod Cases

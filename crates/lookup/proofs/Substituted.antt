@@ -1,14 +1,16 @@
 -- The value and the origin of a point, by what the code finds of its own quarter hour and of its earlier weeks; the value is never above the greatest
 -- magnitude of a reading. Assumes nothing.
-use Rattle.std.proofs.Common.{◌≡◌, ℕ, zero, suc, ◌-◌, ◌<◌, ◌≤◌, true, false, List, [], ◌∷◌, map, length, sym, refl, ap, ◌∙◌, arith}
+use Rattle.std.proofs.Common.{◌≡◌, ℕ, ◌<◌, ◌≤◌, true, false, List, [], ◌∷◌, map, length, sym, refl, ap, ◌∙◌, arith}
 use Rattle.std.specs.Prelude.{Option, None, Some}
 use Rattle.lists.proofs.Cases.{by_test}
 use Rattle.journal.specs.Value.{Value}
-use Rattle.journal.specs.Entries.{Entry}
+use Rattle.journal.specs.declared.Entry.{Entry}
 use Rattle.values.specs.Values.{magnitude_most}
 use Rattle.lookup.specs.declared.Asked.{Asked}
 use Rattle.lookup.specs.declared.PointValue.{PointValue}
-use Rattle.lookup.specs.declared.weeks.Weeks.{Weeks}
+use Rattle.lookup.specs.declared.weeks.Weeks.{Weeks as WeeksMet}
+use Rattle.lookup.specs.declared.Origin.{Origin}
+use Rattle.lookup.specs.declared.Origin.TheVariants.{Measured, Weeks}
 use Rattle.lookup.specs.Mean.{sum_of, nearest}
 use Rattle.lookup.specs.Substitutes.{existing, zero_by_status, zero_for_lack, mean_value, not_active, substitute, looked_up_from, four_weeks, looked_up}
 use Rattle.lookup.specs.Working.{own_value, earlier_values, looked_up_in, value_for, Summed}
@@ -16,17 +18,8 @@ use Rattle.lookup.proofs.Nearest.{mean_by}
 use Rattle.lookup.proofs.Means.{Small, mean_within}
 
 -- a value with its origin
-abbrev value_with : (magnitude origin : ℕ) → PointValue
+abbrev value_with : (magnitude : ℕ) → Origin → PointValue
 value_with magnitude origin = record { magnitude = magnitude; origin = origin }
-
--- it is told by both
-both : (value : PointValue) {magnitude origin : ℕ} → value.magnitude ≡ magnitude → value.origin ≡ origin → value ≡ value_with magnitude origin
-both value e f = rw (← e, ← f)
-
--- what the number of its own quarter hour gives
-from_number : (own status : ℕ) (weeks : List (Option Value)) → 0 < own → looked_up_from status (value_for own) weeks ≡ value_with (own - 1) 0
-from_number zero status weeks h = absurd (omega arith)
-from_number (suc n) status weeks h = ap (λ (magnitude : ℕ). value_with magnitude 0) (omega arith)
 
 -- no value that exists
 pub mean_of_none : (values : List ℕ) → length values ≡ 0 → mean_value values ≡ zero_for_lack
@@ -34,27 +27,27 @@ mean_of_none [] h = refl
 mean_of_none (value ∷ values) h = absurd (omega arith)
 
 -- one at least
-pub mean_of_some : (values : List ℕ) → 1 ≤ length values → mean_value values ≡ value_with (nearest (sum_of values) (length values)) (length values)
+pub mean_of_some : (values : List ℕ) → 1 ≤ length values → mean_value values ≡ value_with (nearest (sum_of values) (length values)) (Weeks (length values))
 mean_of_some [] h = absurd (omega arith)
-mean_of_some (value ∷ values) h = both (mean_value (value ∷ values)) (mean_by (value ∷ values)) (omega arith)
+mean_of_some (value ∷ values) h = ap (λ (magnitude : ℕ). value_with magnitude (Weeks (length (value ∷ values)))) (mean_by (value ∷ values))
 
-module _ (es : List Entry) (asked : Asked) (point status own : ℕ) (e : value_for own ≡ own_value es asked point) where
+module _ (es : List Entry) (asked : Asked) (point status : ℕ) where
   -- the reading
-  pub value_read : 0 < own → value_with (own - 1) 0 ≡ looked_up_in es asked point status
+  pub value_read : (stored : ℕ) → value_for (Some stored) ≡ own_value es asked point → value_with stored Measured ≡ looked_up_in es asked point status
   unfolding looked_up
-  value_read h = rw (← e) (sym (from_number own status (earlier_values es asked point) h))
+  value_read stored e = rw (← e)
 
-  module _ (z : own ≡ 0) where
+  module _ (e : value_for None ≡ own_value es asked point) where
     -- without a reading
     substituted : looked_up_in es asked point status ≡ substitute status (earlier_values es asked point)
     unfolding looked_up
-    substituted = rw (← e, z)
+    substituted = rw (← e)
 
     -- by a status above 0
     pub value_inactive : not_active status ≡ true → zero_by_status ≡ looked_up_in es asked point status
     value_inactive t = sym (substituted ∙ rw t)
 
-    module _ (weeks : Weeks) (s : Summed (existing (earlier_values es asked point)) weeks) (f : not_active status ≡ false) where
+    module _ (weeks : WeeksMet) (s : Summed (existing (earlier_values es asked point)) weeks) (f : not_active status ≡ false) where
       averaged : looked_up_in es asked point status ≡ mean_value (existing (earlier_values es asked point))
       averaged = substituted ∙ rw f
 
@@ -64,7 +57,7 @@ module _ (es : List Entry) (asked : Asked) (point status own : ℕ) (e : value_f
 
       -- and with one at least
       pub value_mean : (mean : ℕ) → 1 ≤ weeks.count → mean ≡ nearest weeks.sum weeks.count
-          → value_with mean weeks.count ≡ looked_up_in es asked point status
+          → value_with mean (Weeks weeks.count) ≡ looked_up_in es asked point status
       value_mean mean n m =
           rw (m, s.sum, s.count) (sym (averaged ∙ mean_of_some (existing (earlier_values es asked point)) (omega (arith, s.count))))
 

@@ -3,21 +3,31 @@ use Rattle.std.specs.Prelude.{ℕ, Bool, cond, List, [], ◌∷◌, map, length,
 use Rattle.journal.specs.Value.{Value}
 use Rattle.journal.specs.Order.{Reading}
 use Rattle.journal.specs.Readings.{shown, value_shown}
+use Rattle.lookup.specs.declared.Origin.{Origin}
+use Rattle.lookup.specs.declared.Origin.TheVariants.{Measured, Weeks, ZeroByStatus, ZeroForLack}
 use Rattle.lookup.specs.declared.PointValue.{PointValue}
 use Rattle.lookup.specs.Mean.{mean_of}
 use Rattle.lookup.specs.Earlier.{Slot, earlier}
 
--- a value that was measured: origin 0
+-- the number of an origin in a published result: 0 for a value that was measured, 1 to 4 for the mean of so many weeks, 5 for zero by status, and 6 for
+-- zero for lack of readings
+abbrev pub number_of_origin : Origin → ℕ
+number_of_origin Measured = 0
+number_of_origin (Weeks weeks) = weeks
+number_of_origin ZeroByStatus = 5
+number_of_origin ZeroForLack = 6
+
+-- a value that was measured
 abbrev pub measured_value : Value → PointValue
-measured_value value = record { magnitude = value.magnitude; origin = 0 }
+measured_value value = record { magnitude = value.magnitude; origin = Measured }
 
--- zero by status: origin 5
+-- zero by status
 abbrev pub zero_by_status : PointValue
-zero_by_status = record { magnitude = 0; origin = 5 }
+zero_by_status = record { magnitude = 0; origin = ZeroByStatus }
 
--- zero for lack of readings: origin 6
+-- zero for lack of readings
 abbrev pub zero_for_lack : PointValue
-zero_for_lack = record { magnitude = 0; origin = 6 }
+zero_for_lack = record { magnitude = 0; origin = ZeroForLack }
 
 -- the magnitudes of the values that exist
 unfoldable pub existing : List (Option Value) → List ℕ
@@ -28,7 +38,7 @@ existing (Some value ∷ values) = value.magnitude ∷ existing values
 -- the mean of the values that exist, whose origin is how many they are; zero for lack of readings if none exists
 abbrev pub mean_value : List ℕ → PointValue
 mean_value [] = zero_for_lack
-mean_value (value ∷ values) = record { magnitude = mean_of (value ∷ values); origin = length (value ∷ values) }
+mean_value (value ∷ values) = record { magnitude = mean_of (value ∷ values); origin = Weeks (length (value ∷ values)) }
 
 -- whether a point with this status is not active: the status is above 0
 abbrev pub not_active : ℕ → Bool

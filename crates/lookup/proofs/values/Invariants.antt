@@ -1,11 +1,12 @@
--- What the loop of `lookup::values` keeps. Assumes nothing.
-use Rattle.std.proofs.Common.{◌-◌, ◌≤◌}
-use Rattle.journal.specs.Stored.{entries}
-use Rattle.lookup.proofs.Filling.{Filling}
+-- What the loop of `lookup::values` keeps: the values of the points passed. Assumes nothing.
+use Rattle.std.proofs.Common.{◌≡◌, ℕ, ◌<◌, length, slice_index}
+use Rattle.journal.specs.Stored.{entries_in}
+use Rattle.lookup.specs.Working.{looked_up_in, value_of_point}
 use Rattle.lookup.proofs.values.Given as goal
 
 abbrev pub invariant-loop-point : goal.invariant-loop-point
-invariant-loop-point l = (l.point ≤ l.points) × Filling (entries l.count l.journal) l.asked l.statuses l.point l.magnitudes l.origins
-
-abbrev pub decreases-loop-point : goal.decreases-loop-point
-decreases-loop-point l = l.points - l.point
+invariant-loop-point l =
+    record {
+      size : length l.values ≡ 64;
+      done : (k : ℕ) → k < l.point → value_of_point l.values k ≡ looked_up_in (entries_in l.entries) l.asked k (slice_index l.statuses k);
+    }

@@ -1,11 +1,6 @@
 -- What the loop of `lookup::weeks::earlier_weeks` keeps. Assumes nothing.
-use Rattle.std.proofs.Common.{◌≡◌}
-use Rattle.lookup.specs.Working.{first_near}
 use Rattle.lookup.proofs.Passing.{Passing}
 use Rattle.lookup.proofs.weeks.earlier_weeks.Given as goal
 
-abbrev pub invariant-loop-end : goal.invariant-loop-end
-invariant-loop-end l = (l.near ≡ first_near l.point l.asked) × Passing l.count l.journal l.asked l.point l.end l.weeks
-
-abbrev pub decreases-loop-end : goal.decreases-loop-end
-decreases-loop-end l = l.end
+abbrev pub invariant-loop-i : goal.invariant-loop-i
+invariant-loop-i l = Passing l.entries l.asked l.point l.i l.weeks

@@ -3,7 +3,5 @@ use Rattle.std.proofs.Common.{arith}
 use Rattle.calendar.proofs.Laws.{exists_day}
 use Rattle.lookup.proofs.weeks.first_near.Goals as goal
 
-pub place-requires-2 : goal.place-requires-2
-place-requires-2 c =
-    let a = c.args in
-    (omega (arith, c.requires.0), omega (arith, exists_day a.asked.day a.asked.quarter c.requires.1), omega arith, omega arith)
+pub place-requires : goal.place-requires
+place-requires c = omega (arith, exists_day c.args.asked.day c.args.asked.quarter c.requires.1)

@@ -16,7 +16,7 @@ overflow_add-result c =
     let a = c.args in
     omega (arith, one_more_fits a.sum a.count (omega arith) (omega arith))
 
-pub returns : goal.returns
-returns c =
+pub returns-else-rest-count : goal.returns-else-rest-count
+returns-else-rest-count c =
     let a = c.args in
     sym (nearest_up a.sum a.count (omega arith) (omega arith))

@@ -1,5 +1,5 @@
--- `lookup::weeks::all_sought` meets its contract: the place of each week. Assumes nothing.
-use Rattle.lookup.proofs.weeks.all_sought.Goals as goal
+-- `lookup::weeks::Weeks::all_sought` meets its contract: the place of each week. Assumes nothing.
+use Rattle.lookup.proofs.weeks.Weeks.all_sought.Goals as goal
 
 pub returns : goal.returns
 returns c =
