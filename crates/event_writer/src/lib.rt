@@ -1,146 +1,126 @@
-// The lines of answers, written into a lent buffer: A and R with the answer of a call; S, U, V and W with the result of an evaluation.
+// The lines of answers, put on a page: A and R with the answer of a call; S, U, V and W with the result of an evaluation.
 #![tactic(auto)]
 
-ghost use Rattle.std.specs.Prelude.{ℕ, ◌+◌, ◌*◌, ◌≤◌, ◌<◌, [], ◌∷◌, length};
-ghost use Rattle.lists.specs.Place.{Put};
-ghost use Rattle.registration.specs.Rules.{place_at, count_at};
+ghost use Rattle.std.specs.Prelude.{ℕ, ◌≡◌, ◌+◌, ◌*◌, ◌≤◌, ◌<◌, [], ◌∷◌, length};
+ghost use Rattle.lists.specs.Pages.{Added};
+ghost use Rattle.columns.specs.Fields.{total};
+ghost use Rattle.registration.specs.Rules.{source_at, count_at};
 ghost use Rattle.registration.specs.Pairs.{pairs_in};
 ghost use Rattle.evaluation.specs.Layout.{size_of};
 ghost use Rattle.event_writer.specs.Answers.{line_a, bytes_of_answer, line_r, bytes_of_rounds, lines_of_consumer, lines_s, lines_of_points, lines_of_result, bytes_of_result};
 
+use lines::Format;
+use lists::Page;
 use registration::Registration;
 
 // How many bytes an A line takes.
 pub const ANSWER_BYTES: usize = 19;
 
-// Puts an A line at a place of a buffer: the answer, and the stamp or the dropped count.
-pub fn put_answer(out: &mut [u8], start: usize, answer: u64, number: u64) -> usize
-    requires { start + bytes_of_answer ≤ length out.old }
-    ensures { Put start (line_a answer number) out.old out.new result }
+// A: the answer, and the stamp or the dropped count.
+const ANSWER: Format<2> = Format {
+    letter: b'A',
+    widths: [4, 13],
+};
+
+// R: the answer and the round count.
+const ROUNDS: Format<2> = Format {
+    letter: b'R',
+    widths: [4, 2],
+};
+
+// S: a consumer, a producer and the pair's share.
+const SHARE: Format<3> = Format {
+    letter: b'S',
+    widths: [4, 4, 10],
+};
+
+// U: a consumer and its remaining withdrawal.
+const WITHDRAWAL: Format<2> = Format {
+    letter: b'U',
+    widths: [4, 10],
+};
+
+// V: a producer and its remaining supply.
+const SUPPLY: Format<2> = Format {
+    letter: b'V',
+    widths: [4, 10],
+};
+
+// W: a point and its origin.
+const ORIGIN: Format<2> = Format {
+    letter: b'W',
+    widths: [4, 2],
+};
+
+// Puts an A line: the answer, and the stamp or the dropped count.
+pub fn put_answer(page: &mut Page<u8>, answer: u64, number: u64)
+    requires { page.old.end + bytes_of_answer ≤ length page.old.space.now }
+    ensures { Added (line_a answer number) page.old page.new }
 {
-    lines::put_two(out, start, b'A', 4, 13, answer, number)
+    ANSWER.put(page, [answer, number])
 }
 
-// Puts an R line at a place of a buffer: the answer and the round count.
-pub fn put_rounds(out: &mut [u8], start: usize, answer: u64, rounds: u64) -> usize
-    requires { start + bytes_of_rounds ≤ length out.old }
-    ensures { Put start (line_r answer rounds) out.old out.new result }
+// Puts an R line: the answer and the round count.
+pub fn put_rounds(page: &mut Page<u8>, answer: u64, rounds: u64)
+    requires { page.old.end + bytes_of_rounds ≤ length page.old.space.now }
+    ensures { Added (line_r answer rounds) page.old page.new }
 {
-    lines::put_two(out, start, b'R', 4, 2, answer, rounds)
+    ROUNDS.put(page, [answer, rounds])
 }
 
-// Puts the S lines of a consumer, whose shares stand in the result list from a place on.
-fn put_consumer(
-    out: &mut [u8],
-    start: usize,
-    sources: &[u8; 320],
-    consumer: usize,
-    count: usize,
-    numbers: &[u64],
-    from: usize,
-) -> usize
-    requires { (consumer < 64) × (count ≤ 5) × (from + count ≤ length numbers.now) × (start + 20 * count ≤ length out.old) }
-    ensures { Put start (lines_of_consumer (place_at sources.now consumer) consumer count from numbers.now) out.old out.new result }
+// Puts the S lines of a consumer with its pairs' shares.
+fn put_consumer(page: &mut Page<u8>, registration: &Registration, consumer: usize, shares: &[u64])
+    requires { (consumer < 64) × (length shares.now ≤ 5) × (page.old.end + 20 * length shares.now ≤ length page.old.space.now) }
+    ensures { Added (lines_of_consumer (source_at registration.now consumer) consumer (length shares.now) 0 shares.now) page.old page.new }
 {
-    let number = consumer as u64 + 1;
-    let mut at = start;
-    let mut priority = 0;
-    while priority < count {
-        let source = lists::byte_number(sources[5 * consumer + priority]);
-        let share = numbers[from + priority];
-        at = lines::put_three(out, at, b'S', 4, 4, 10, number, source, share);
-        priority += 1;
+    for (priority, share) in shares.iter().enumerate() {
+        let source = registration.pair(consumer, priority).source;
+        SHARE.put(page, [consumer as u64 + 1, source, *share]);
     }
-    at
 }
 
-// Puts the S lines of all consumers.
-fn put_shares(out: &mut [u8], start: usize, registration: Registration, numbers: &[u64]) -> usize
-    requires consumers_bound { registration.producers + registration.consumers ≤ 64 }
-    requires by_index { (consumer : ℕ) → consumer < registration.consumers → count_at registration consumer ≤ 5 }
-    requires registration_in_bounds { (pairs_in registration ≤ length numbers.now) × (start + 20 * pairs_in registration ≤ length out.old) }
-    ensures { Put start (lines_s registration numbers.now) out.old out.new result }
+// Puts the S lines of all consumers, whose shares stand at the front of the result list.
+fn put_shares(page: &mut Page<u8>, registration: &Registration, numbers: &[u64])
+    requires consumers_bound { registration.now.producers + registration.now.consumers ≤ 64 }
+    requires by_index { (consumer : ℕ) → consumer < registration.now.consumers → count_at registration.now consumer ≤ 5 }
+    requires registration_in_bounds { (pairs_in registration.now ≤ length numbers.now) × (page.old.end + 20 * pairs_in registration.now ≤ length page.old.space.now) }
+    ensures { Added (lines_s registration.now numbers.now) page.old page.new }
 {
-    let counts = registration.counts;
-    let sources = registration.sources;
-    let consumers = registration.consumers;
-    let mut at = start;
-    let mut from = 0;
-    let mut consumer = 0;
-    while consumer < consumers {
-        let count = counts[consumer] as usize;
-        at = put_consumer(out, at, &sources, consumer, count, numbers, from);
-        from += count;
-        consumer += 1;
+    let mut rest = numbers;
+    for (consumer, count) in registration.counts[..registration.consumers]
+        .iter()
+        .enumerate()
+    {
+        let (shares, others) = rest.split_at(usize::from(*count));
+        put_consumer(page, registration, consumer, shares);
+        rest = others;
     }
-    at
 }
 
-// Puts a U, V or W line, with a second column of this width, for each of so many numbers of the result list from a place on.
-fn put_points(
-    out: &mut [u8],
-    start: usize,
-    letter: u8,
-    width: usize,
-    numbers: &[u64],
-    from: usize,
-    count: usize,
-) -> usize
-    requires { (count ≤ 64) × (from + count ≤ length numbers.now) × (start + (width + 6) * count ≤ length out.old) }
-    ensures { Put start (lines_of_points letter (4 ∷ width ∷ []) from count numbers.now) out.old out.new result }
+// Puts a line for each of these numbers, with the point's number before it.
+fn put_points(page: &mut Page<u8>, format: &Format<2>, numbers: &[u64])
+    requires { (length format.now.widths ≡ 2) × (length numbers.now ≤ 64) × (page.old.end + (total format.now.widths + 2) * length numbers.now ≤ length page.old.space.now) }
+    ensures { Added (lines_of_points format.now.letter format.now.widths 0 (length numbers.now) numbers.now) page.old page.new }
 {
-    let mut at = start;
-    let mut point = 0;
-    while point < count {
-        let number = point as u64 + 1;
-        at = lines::put_two(out, at, letter, 4, width, number, numbers[from + point]);
-        point += 1;
+    for (point, number) in numbers.iter().enumerate() {
+        format.put(page, [point as u64 + 1, *number]);
     }
-    at
 }
 
-// Puts the result of an evaluation at a place of a buffer, line by line.
-pub fn put_result(
-    out: &mut [u8],
-    start: usize,
-    registration: Registration,
-    numbers: &[u64],
-) -> usize
-    requires consumers_bound { registration.producers + registration.consumers ≤ 64 }
-    requires by_index { (consumer : ℕ) → consumer < registration.consumers → count_at registration consumer ≤ 5 }
-    requires registration_in_bounds { (size_of registration ≤ length numbers.now) × (start + bytes_of_result registration ≤ length out.old) }
-    ensures { Put start (lines_of_result registration numbers.now) out.old out.new result }
+// Puts the result of an evaluation, line by line.
+pub fn put_result(page: &mut Page<u8>, registration: &Registration, numbers: &[u64])
+    requires consumers_bound { registration.now.producers + registration.now.consumers ≤ 64 }
+    requires by_index { (consumer : ℕ) → consumer < registration.now.consumers → count_at registration.now consumer ≤ 5 }
+    requires registration_in_bounds { (size_of registration.now ≤ length numbers.now) × (page.old.end + bytes_of_result registration.now ≤ length page.old.space.now) }
+    ensures { Added (lines_of_result registration.now numbers.now) page.old page.new }
 {
-    let consumers = registration.consumers;
-    let producers = registration.producers;
     let layout = evaluation::layout_of(registration);
-    let after_shares = put_shares(out, start, registration, numbers);
-    let after_withdrawals = put_points(
-        out,
-        after_shares,
-        b'U',
-        10,
-        numbers,
-        layout.withdrawals,
-        consumers,
-    );
-    let after_supplies = put_points(
-        out,
-        after_withdrawals,
-        b'V',
-        10,
-        numbers,
-        layout.supplies,
-        producers,
-    );
-    let points = producers + consumers;
+    put_shares(page, registration, numbers);
     put_points(
-        out,
-        after_supplies,
-        b'W',
-        2,
-        numbers,
-        layout.origins,
-        points,
-    )
+        page,
+        &WITHDRAWAL,
+        &numbers[layout.withdrawals..layout.supplies],
+    );
+    put_points(page, &SUPPLY, &numbers[layout.supplies..layout.origins]);
+    put_points(page, &ORIGIN, &numbers[layout.origins..layout.size]);
 }

@@ -1,22 +1,23 @@
--- `event_writer::put_points` meets its contract: the lines passed have been put. Assumes nothing.
+-- `event_writer::put_points` meets its contract: line by line.
 use native.Mathlib.Omega.{arith}
-use Rattle.lists.proofs.Pieces.{no_pieces, next_fits, one_more, all_put}
+use native.Mathlib.Nat.{zero-add}
+use lib.ListN.{length}
+use Rattle.lists.proofs.Adding.{no_piece, piece_fits, piece_more, all_pieces}
 use Rattle.event_writer.proofs.Lengths.{points_joined, length_of_point, length_of_points}
 use Rattle.event_writer.proofs.put_points.Goals as goal
 
 pub loop-point-init : goal.loop-point-init
-loop-point-init c = no_pieces (rw (← points_joined, length_of_points) c.requires.2)
+loop-point-init c = no_piece _ (omega arith)
 
-pub put_two-at-requires : goal.put_two-at-requires
-put_two-at-requires c =
-    let fits = rw length_of_point at (next_fits c.loop-point.invariant c.loop-point-test.true) in
-    omega (arith, fits)
+pub put-requires : goal.put-requires
+put-requires c =
+    let a = c.args in
+    let whole = rw points_joined at (length_of_points a.format.now.letter a.format.now.widths 0 (length a.numbers.now) a.numbers.now c.requires.0) in
+    let fits = piece_fits _ c.loop-point.invariant (length a.numbers.now) (omega arith) (omega (arith, whole)) in
+    (omega arith, (omega arith, rw (length_of_point _ _ _ _ c.requires.0) at fits))
 
 pub loop-point-preserved : goal.loop-point-preserved
-loop-point-preserved c = one_more c.loop-point.invariant c.loop-point-test.true c.put_two-at.ensures
-
-pub shape_of-out : goal.shape_of-out
-shape_of-out c = c.loop-point.invariant.same
+loop-point-preserved c = piece_more _ c.loop-point.invariant (rw zero-add c.put.ensures)
 
 pub returns : goal.returns
-returns c = rw points_joined (all_put c.loop-point.invariant c.loop-point-test.false)
+returns c = rw points_joined (all_pieces _ c.loop-point.invariant (omega arith) (omega arith))

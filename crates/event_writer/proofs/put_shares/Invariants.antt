@@ -1,14 +1,12 @@
--- What the loop of `event_writer::put_shares` keeps. Assumes nothing.
-use Prim.Native.Nat.{◌-◌}
+-- What the loop of `event_writer::put_shares` keeps: the lines of the consumers passed have been put, and the shares of the others are left.
 use mathlib.Core.Path.{◌≡◌}
-use lib.ListN.{get_or}
-use Rattle.lists.specs.Below.{sum_below}
-use Rattle.lists.proofs.Pieces.{Pieces}
+use lib.ListN.{drop}
+use Rattle.lists.specs.Pages.{Added}
+use Rattle.lists.specs.Tables.{joined}
+use Rattle.registration.specs.Pairs.{pairs_before}
 use Rattle.event_writer.proofs.Lengths.{consumer_lines}
 use Rattle.event_writer.proofs.put_shares.Given as goal
 
 abbrev pub invariant-loop-consumer : goal.invariant-loop-consumer
-invariant-loop-consumer l = (l.from ≡ sum_below (λ i. get_or l.counts i 0) l.consumer) × Pieces (consumer_lines l.counts l.sources l.numbers) l.consumers l.start l.consumer l.initial.out l.out l.at
-
-abbrev pub decreases-loop-consumer : goal.decreases-loop-consumer
-decreases-loop-consumer l = l.consumers - l.consumer
+invariant-loop-consumer l =
+    (l.rest ≡ drop (pairs_before l.registration l.consumer) l.numbers) × Added (joined (consumer_lines l.registration l.numbers) l.consumer) l.initial.page l.page
