@@ -120,15 +120,14 @@ second=tests/second/src/refusal.rs
 
 table=$(rows 's/^number_of ([A-Za-z]+) = ([0-9]+)$/\2 \1/p' <$numbers)
 agrees "$numbers, by number" "$(cut -d ' ' -f 1 <<<"$table")" "$(seq 16)"
-agrees $code "$(rows 's/^ *Refusal::([A-Za-z]+) => ([0-9]+),$/\2 \1/p' <$code)" "$table"
+agrees $code "$(rows 's/^ *([A-Za-z]+) = ([0-9]+),$/\2 \1/p' <$code)" "$table"
 agrees README.md "$(rows 's/^\| ([0-9]+) \| `([A-Za-z]+)` \| .*/\1 \2/p' <README.md)" "$table"
 agrees $header "$(rows 's/^ *SHARE_([A-Z_]+) = ([1-9][0-9]*),? .*/\2 \1/p' <$header)" "$table"
 agrees $wrapper "$(rows 's/^ *([A-Za-z]+) = ([0-9]+),$/\2 \1/p' <$wrapper)" "$table"
 agrees $second "$(rows 's/^pub const ([A-Z_]+): u64 = ([0-9]+);$/\2 \1/p' <$second)" "$table"
 
-# The lists that have no numbers have the table's order.
+# The list that has no numbers has the table's order.
 names=$(cut -d ' ' -f 2 <<<"$table")
-agrees "$code, in its enum" "$(rows '/^pub enum Refusal/,/^}/s/^ *([A-Za-z]+),$/\1/p' <$code)" "$names"
 agrees "$wrapper, in its list" "$(rows 's/^ *Refusal::([A-Za-z]+),$/\1/p' <$wrapper)" "$names"
 
 # Each meaning is what README.md has; those of the second implementation are its own.
