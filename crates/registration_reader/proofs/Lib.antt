@@ -1,7 +1,4 @@
-pub mod LineParts
-pub mod Answers
-pub mod Verdicts
-pub mod PairParts
 pub mod Placing
+pub mod PairParts
 pub mod Stages
 pub mod Whole

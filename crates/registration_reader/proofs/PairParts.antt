@@ -1,141 +1,149 @@
--- An O line's numbers and keys, put into their places one priority after the other. Assumes nothing.
+-- An O line's pairs, read one after the other: what stands in the columns of the first one, and the numbers of those that follow. Assumes nothing.
 use Prim.Native.Nat.{ℕ, zero, suc, ◌+◌, ◌-◌, ◌≤◌, ◌<◌}
-use mathlib.Core.Path.{◌≡◌, refl, ap, ◌∙◌}
+use mathlib.Core.Path.{◌≡◌, refl, sym, ap, ◌∙◌}
 use mathlib.Core.Bool.{true}
-use mathlib.Core.List.{List, [], ◌∷◌}
+use mathlib.Core.List.{List, [], ◌∷◌, ◌++◌, append_assoc, append-nil}
 use Rattle.std.specs.Prelude.{Option, None, Some}
-use native.Mathlib.Nat.{sub-zero}
+use Rattle.std.proofs.lemmas.Option.{none-some}
+use native.Mathlib.Nat.{add-zero, zero-add, sub_self}
+use native.Mathlib.Numerals.{add-one}
 use native.Mathlib.Omega.{arith}
-use lib.ListN.{length, get_or, take, drop, set, replicate}
-use lib.Seq.{set_out}
-use Rattle.columns.specs.declared.Number.{Number}
-use Rattle.columns.specs.declared.Number.TheVariants.{Is, Bad}
+use lib.ListN.{length, get_or, take, drop, set, get_or-append}
+use lib.Seq.{drop-drop, length-take-le, get_or-take, get_or-set_same, get_or-set_other}
 use Rattle.columns.specs.Column.{number_in}
 use Rattle.columns.specs.Fields.{with_first, numbers_in}
-use Rattle.columns.proofs.Laws.{numbers_in_nil}
-use Rattle.registration.specs.Rules.{pairs_right}
+use Rattle.columns.proofs.Laws.{numbers_in_nil, numbers_in_cons}
+use Rattle.lines.proofs.Parts.{after_these}
+use Rattle.registration.specs.declared.Pair.{Pair}
+use Rattle.registration.specs.declared.Registration.{Registration}
+use Rattle.registration.specs.Rules.{no_pair, source_in, key_in, pairs_right}
 use Rattle.registration.proofs.Bounds.{pair_bounds}
 use Rattle.registration.proofs.Places.{pairs_same}
-use Rattle.registration_reader.specs.declared.Pairs.{Pairs}
-use Rattle.registration_text.specs.Lines.{widths_of_pairs}
-use Rattle.registration_text.specs.Reader.{source_in, key_in}
-use Rattle.registration_reader.specs.Parts.{five, by_priority}
-use Rattle.lines.proofs.Parts.{column}
+use Rattle.registration_text.specs.Lines.{widths_of_pairs, pairs_from}
+use Rattle.registration_text.specs.Reader.{nth_source, nth_key, with_count, with_pairs}
+use Rattle.registration_text.proofs.Named.{pairs_at, pairs_from_same}
+use Rattle.registration_reader.proofs.Placing.{pairs_placed_same}
 
--- numbers and keys in turn, put at the priorities from one on
-abbrev placed : (sources keys : List ℕ) → ℕ → List ℕ → Pairs
-placed sources keys priority [] = record { good = true; sources = sources; keys = keys }
-placed sources keys priority (source ∷ []) = record { good = true; sources = set sources priority source; keys = keys }
-placed sources keys priority (source ∷ key ∷ rest) = placed (set sources priority source) (set keys priority key) (suc priority) rest
+-- ---- the columns of a pair, and those that follow
 
-abbrev placed_if : (sources keys : List ℕ) → ℕ → Option (List ℕ) → Pairs
-placed_if sources keys priority None = by_priority None
-placed_if sources keys priority (Some numbers) = placed sources keys priority numbers
+none_with : (a b : Option ℕ) (o : Option (List ℕ)) → with_first a (with_first b (Some [])) ≡ None → with_first a (with_first b o) ≡ None
+none_with None b o e = refl
+none_with (Some s) None o e = refl
+none_with (Some s) (Some k) o e = absurd (none-some _ (sym e))
 
--- past the places nothing is put anywhere
-beyond : (sources keys : List ℕ) (priority : ℕ) (numbers : List ℕ) → length sources ≤ priority → length keys ≤ priority
-    → record { good = true; sources = sources; keys = keys } ≡ placed sources keys priority numbers
-beyond sources keys priority [] h k = refl
-beyond sources keys priority (source ∷ []) h k = rw (set_out sources priority source h)
-beyond sources keys priority (source ∷ key ∷ rest) h k =
-    rw (set_out sources priority source h, set_out keys priority key k) (beyond sources keys (suc priority) rest (omega arith) (omega arith))
+pair_with : (a b : Option ℕ) (o : Option (List ℕ)) (pair : List ℕ) → with_first a (with_first b (Some [])) ≡ Some pair
+    → with_first a (with_first b o) ≡ after_these (get_or pair 0 0 ∷ get_or pair 1 0 ∷ []) o
+pair_with None b o pair e = absurd (none-some _ e)
+pair_with (Some s) None o pair e = absurd (none-some _ e)
+pair_with (Some s) (Some k) o pair e =
+    let p : s ∷ k ∷ [] ≡ pair = cc in
+    rw (← p) (go o)
+  where
+    go : (o : Option (List ℕ)) → with_first (Some s) (with_first (Some k) o) ≡ after_these (s ∷ k ∷ []) o
+    go None = refl
+    go (Some ms) = refl
 
--- from zeros on, that gives the numbers and keys by priority
-spread : (numbers : Option (List ℕ)) → by_priority numbers ≡ placed_if (replicate 5 0) (replicate 5 0) 0 numbers
-spread None = refl
-spread (Some []) = refl
-spread (Some (a ∷ [])) = refl
-spread (Some (a ∷ b ∷ [])) = refl
-spread (Some (a ∷ b ∷ c ∷ [])) = refl
-spread (Some (a ∷ b ∷ c ∷ d ∷ [])) = refl
-spread (Some (a ∷ b ∷ c ∷ d ∷ e ∷ [])) = refl
-spread (Some (a ∷ b ∷ c ∷ d ∷ e ∷ f ∷ [])) = refl
-spread (Some (a ∷ b ∷ c ∷ d ∷ e ∷ f ∷ g ∷ [])) = refl
-spread (Some (a ∷ b ∷ c ∷ d ∷ e ∷ f ∷ g ∷ h ∷ [])) = refl
-spread (Some (a ∷ b ∷ c ∷ d ∷ e ∷ f ∷ g ∷ h ∷ i ∷ [])) = refl
-spread (Some (a ∷ b ∷ c ∷ d ∷ e ∷ f ∷ g ∷ h ∷ i ∷ j ∷ rest)) =
-    beyond (a ∷ c ∷ e ∷ g ∷ i ∷ []) (b ∷ d ∷ f ∷ h ∷ j ∷ []) 5 rest (omega arith) (omega arith)
+module _ (rest : List ℕ) where
+  alone : numbers_in (4 ∷ 6 ∷ []) rest ≡ with_first (number_in (take 4 rest)) (with_first (number_in (take 6 (drop 4 rest))) (Some []))
+  alone = rw (numbers_in_cons, numbers_in_cons, numbers_in_nil)
 
--- what comes of the columns from a place on, once those of the earlier priorities are in their places
-unfoldable pub left : (bytes : List ℕ) → ℕ → (sources keys : List ℕ) → ℕ → ℕ → Pairs
-left bytes count sources keys priority at = placed_if sources keys priority (numbers_in (widths_of_pairs (count - priority)) (drop at bytes))
+  module _ (count i : ℕ) (h : i < count) where
+    followed : numbers_in (widths_of_pairs (count - i)) rest
+        ≡ with_first (number_in (take 4 rest)) (with_first (number_in (take 6 (drop 4 rest))) (numbers_in (widths_of_pairs (count - (i + 1))) (drop 10 rest)))
+    unfolding widths_of_pairs
+    followed =
+        let one_more : count - i ≡ suc (count - (i + 1)) = omega arith in
+        rw (one_more, numbers_in_cons, numbers_in_cons, drop-drop)
 
-widths_suc : (count : ℕ) → widths_of_pairs (suc count) ≡ 4 ∷ 6 ∷ widths_of_pairs count
+    pub pair_none : (before : List ℕ) → numbers_in (4 ∷ 6 ∷ []) rest ≡ None → after_these before (numbers_in (widths_of_pairs (count - i)) rest) ≡ None
+    pair_none before e = ap (after_these before) (followed ∙ none_with (number_in (take 4 rest)) (number_in (take 6 (drop 4 rest))) _ (sym alone ∙ e))
+
+    pair_first : (pair : List ℕ) → numbers_in (4 ∷ 6 ∷ []) rest ≡ Some pair
+        → numbers_in (widths_of_pairs (count - i)) rest ≡ after_these (get_or pair 0 0 ∷ get_or pair 1 0 ∷ []) (numbers_in (widths_of_pairs (count - (i + 1))) (drop 10 rest))
+    pair_first pair e = followed ∙ pair_with (number_in (take 4 rest)) (number_in (take 6 (drop 4 rest))) _ pair (sym alone ∙ e)
+
+-- ---- the pairs that were read
+
+after_after : (xs ys : List ℕ) (o : Option (List ℕ)) → after_these xs (after_these ys o) ≡ after_these (xs ++ ys) o
+after_after xs ys None = refl
+after_after xs ys (Some ms) = rw append_assoc
+
+pairs_from_more : (f g : ℕ → ℕ) (p n : ℕ) → pairs_from f g p (suc n) ≡ pairs_from f g p n ++ (f (p + n) ∷ g (p + n) ∷ [])
+unfolding pairs_from
+pairs_from_more f g p zero = rw add-zero
+pairs_from_more f g p (suc n) =
+    let later : p + suc n ≡ suc p + n = omega arith in
+    rw later (ap (λ (ns : List ℕ). f p ∷ g p ∷ ns) (pairs_from_more f g (suc p) n))
+
+module _ (pairs : List Pair) (i : ℕ) (pair : Pair) (h : i < length pairs) where
+  pair_put : pairs_from (source_in (set pairs i pair)) (key_in (set pairs i pair)) 0 (i + 1) ≡ pairs_from (source_in pairs) (key_in pairs) 0 i ++ (pair.source ∷ pair.key ∷ [])
+  pair_put =
+      let here : get_or (set pairs i pair) i no_pair ≡ pair = get_or-set_same pairs i pair no_pair h in
+      let source : source_in (set pairs i pair) i ≡ pair.source = ap (λ (p : Pair). p.source) here in
+      let key : key_in (set pairs i pair) i ≡ pair.key = ap (λ (p : Pair). p.key) here in
+      rw (add-one, pairs_from_more, zero-add, source, key)
+      (ap (λ (ns : List ℕ). ns ++ (pair.source ∷ pair.key ∷ []))
+      (pairs_from_same (source_in (set pairs i pair)) (key_in (set pairs i pair)) (source_in pairs) (key_in pairs) 0 i
+      (λ k l. ap (λ (p : Pair). p.source) (get_or-set_other pairs i k pair no_pair (omega arith)))
+      (λ k l. ap (λ (p : Pair). p.key) (get_or-set_other pairs i k pair no_pair (omega arith)))))
+
+  -- one pair more is in its place
+  pub pair_next : (rest read : List ℕ) (count : ℕ) → i < count → numbers_in (4 ∷ 6 ∷ []) rest ≡ Some read → pair ≡ record { source = get_or read 0 0; key = get_or read 1 0 }
+      → after_these (pairs_from (source_in pairs) (key_in pairs) 0 i) (numbers_in (widths_of_pairs (count - i)) rest)
+      ≡ after_these (pairs_from (source_in (set pairs i pair)) (key_in (set pairs i pair)) 0 (i + 1)) (numbers_in (widths_of_pairs (count - (i + 1))) (drop 10 rest))
+  pair_next rest read count l e is =
+      let source : pair.source ≡ get_or read 0 0 = λ j. (is j).source in
+      let key : pair.key ≡ get_or read 1 0 = λ j. (is j).key in
+      rw (pair_put, source, key, pair_first rest count i l read e) (after_after (pairs_from (source_in pairs) (key_in pairs) 0 i) (get_or read 0 0 ∷ get_or read 1 0 ∷ []) _)
+
+-- no pair has been read yet, and all of them have
+pub pairs_begin : (pairs : List Pair) (numbers : Option (List ℕ)) → after_these (pairs_from (source_in pairs) (key_in pairs) 0 0) numbers ≡ numbers
+unfolding pairs_from
+pairs_begin pairs None = refl
+pairs_begin pairs (Some ns) = refl
+
+pub pairs_end : (pairs others : List Pair) (rest : List ℕ) (count i : ℕ) → i ≡ count → length pairs ≡ count
+    → after_these (pairs_from (source_in pairs) (key_in pairs) 0 i) (numbers_in (widths_of_pairs (count - i)) rest)
+    ≡ Some (pairs_from (source_in (pairs ++ others)) (key_in (pairs ++ others)) 0 count)
 unfolding widths_of_pairs
-widths_suc count = refl
+pairs_end pairs others rest count i h e =
+    rw (h, sub_self, numbers_in_nil, append-nil)
+    (ap (λ (ns : List ℕ). Some ns)
+    (pairs_from_same (source_in pairs) (key_in pairs) (source_in (pairs ++ others)) (key_in (pairs ++ others)) 0 count
+    (λ k l. ap (λ (p : Pair). p.source) (sym (get_or-append pairs others no_pair k (omega arith))))
+    (λ k l. ap (λ (p : Pair). p.key) (sym (get_or-append pairs others no_pair k (omega arith))))))
 
-put : (sources keys : List ℕ) (priority source key : ℕ) (rest : Option (List ℕ))
-    → placed_if sources keys priority (with_first (Is source) (with_first (Is key) rest)) ≡ placed_if (set sources priority source) (set keys priority key) (suc priority) rest
-put sources keys priority source key None = refl
-put sources keys priority source key (Some numbers) = refl
-
-pub left_begin : (bytes : List ℕ) (count : ℕ) → by_priority (numbers_in (widths_of_pairs count) bytes) ≡ left bytes count (replicate 5 0) (replicate 5 0) 0 0
-unfolding left
-left_begin bytes count = rw (sub-zero count) (spread (numbers_in (widths_of_pairs count) bytes))
-
-module _ (bytes : List ℕ) (count : ℕ) (sources keys : List ℕ) (priority at : ℕ) where
-  -- where no column is left, all is in its place
-  pub left_none : count ≤ priority → left bytes count sources keys priority at ≡ record { good = true; sources = sources; keys = keys }
-  unfolding left widths_of_pairs
-  left_none h =
-      let none_left : count - priority ≡ 0 = omega arith in
-      rw (none_left, numbers_in_nil)
-
-  module _ (h : priority < count) where
-    -- the columns that are left are a number's, a key's, and those of the later priorities
-    first : (n : Number) → n ≡ number_in (take (at + 4 - at) (drop at bytes))
-        → numbers_in (widths_of_pairs (count - priority)) (drop at bytes) ≡ with_first n (numbers_in (6 ∷ widths_of_pairs (count - (priority + 1))) (drop (at + 4) bytes))
-    first n e =
-        let one_more : count - priority ≡ suc (count - (priority + 1)) = omega arith in
-        let width : at + 4 - at ≡ 4 = omega arith in
-        rw (one_more, widths_suc) (column bytes at 4 (6 ∷ widths_of_pairs (count - (priority + 1))) n (rw width at e))
-
-    second : (n : Number) → n ≡ number_in (take (at + 10 - (at + 4)) (drop (at + 4) bytes))
-        → numbers_in (6 ∷ widths_of_pairs (count - (priority + 1))) (drop (at + 4) bytes) ≡ with_first n (numbers_in (widths_of_pairs (count - (priority + 1))) (drop (at + 10) bytes))
-    second n e =
-        let width : at + 10 - (at + 4) ≡ 6 = omega arith in
-        let end : at + 10 ≡ at + 4 + 6 = omega arith in
-        rw end (column bytes (at + 4) 6 (widths_of_pairs (count - (priority + 1))) n (rw width at e))
-
-    pub left_bad_source : Bad ≡ number_in (take (at + 4 - at) (drop at bytes)) → left bytes count sources keys priority at ≡ by_priority None
-    unfolding left
-    left_bad_source e = ap (placed_if sources keys priority) (first Bad e)
-
-    module _ (source : ℕ) (is_source : Is source ≡ number_in (take (at + 4 - at) (drop at bytes))) where
-      pub left_bad_key : Bad ≡ number_in (take (at + 10 - (at + 4)) (drop (at + 4) bytes)) → left bytes count sources keys priority at ≡ by_priority None
-      unfolding left
-      left_bad_key e = ap (placed_if sources keys priority) (first (Is source) is_source ∙ ap (with_first (Is source)) (second Bad e))
-
-      pub left_next : (key : ℕ) → Is key ≡ number_in (take (at + 10 - (at + 4)) (drop (at + 4) bytes))
-          → left bytes count sources keys priority at ≡ left bytes count (set sources priority source) (set keys priority key) (priority + 1) (at + 10)
-      unfolding left
-      left_next key e =
-          let next : priority + 1 ≡ suc priority = omega arith in
-          ap (placed_if sources keys priority) (first (Is source) is_source ∙ ap (with_first (Is source)) (second (Is key) e))
-          ∙ rw next (put sources keys priority source key (numbers_in (widths_of_pairs (count - suc priority)) (drop (at + 10) bytes)))
-
--- ---- the pairs once they are read
-
-five_at : (f : ℕ → ℕ) (k : ℕ) → k < 5 → get_or (five f) k 0 ≡ f k
-five_at f zero h = refl
-five_at f (suc zero) h = refl
-five_at f (suc (suc zero)) h = refl
-five_at f (suc (suc (suc zero))) h = refl
-five_at f (suc (suc (suc (suc zero)))) h = refl
-five_at f (suc (suc (suc (suc (suc k))))) h = absurd (omega arith)
-
-module _ (pairs : Pairs) (rest : Option (List ℕ)) (is : pairs ≡ by_priority rest) (count : ℕ) (few : count ≤ 5) where
-  pub source_read : (k : ℕ) → k < count → get_or pairs.sources k 0 ≡ source_in rest k
-  source_read k h = ap (λ (p : Pairs). get_or p.sources k 0) is ∙ five_at (source_in rest) k (omega arith)
-
-  pub key_read : (k : ℕ) → k < count → get_or pairs.keys k 0 ≡ key_in rest k
-  key_read k h = ap (λ (p : Pairs). get_or p.keys k 0) is ∙ five_at (key_in rest) k (omega arith)
-
-  pub pairs_read : (producers : ℕ)
-      → pairs_right producers count (λ k. get_or pairs.sources k 0) (λ k. get_or pairs.keys k 0) ≡ pairs_right producers count (source_in rest) (key_in rest)
-  pairs_read producers = pairs_same producers count _ _ _ _ source_read key_read
+-- ---- the pairs among the five places that were read
 
 -- right pairs fit the registration's places
 pub pairs_fit : (producers count : ℕ) (source key : ℕ → ℕ) → pairs_right producers count source key ≡ true → producers < 256
     → (k : ℕ) → k < count → (source k < 256) × (key k < 65536)
 pairs_fit producers count source key t few k h = let bounds = pair_bounds producers count source key t k h in omega arith
+
+module _ (pairs : List Pair) (count : ℕ) (room : count ≤ length pairs) (rest : Option (List ℕ))
+    (is : rest ≡ Some (pairs_from (source_in pairs) (key_in pairs) 0 count)) where
+  as_many : length (take count pairs) ≡ count
+  as_many = length-take-le count pairs room
+
+  source_taken : (k : ℕ) → k < count → source_in (take count pairs) k ≡ nth_source rest k
+  source_taken k h =
+      let here : nth_source (Some (pairs_from (source_in pairs) (key_in pairs) 0 count)) k ≡ source_in pairs k =
+      rw zero-add at (pairs_at (source_in pairs) (key_in pairs) 0 count k h).0 in
+      ap (λ (p : Pair). p.source) (get_or-take count pairs k no_pair h) ∙ sym here ∙ ap (λ (numbers : Option (List ℕ)). nth_source numbers k) (sym is)
+
+  key_taken : (k : ℕ) → k < count → key_in (take count pairs) k ≡ nth_key rest k
+  key_taken k h =
+      let here : nth_key (Some (pairs_from (source_in pairs) (key_in pairs) 0 count)) k ≡ key_in pairs k =
+      rw zero-add at (pairs_at (source_in pairs) (key_in pairs) 0 count k h).1 in
+      ap (λ (p : Pair). p.key) (get_or-take count pairs k no_pair h) ∙ sym here ∙ ap (λ (numbers : Option (List ℕ)). nth_key numbers k) (sym is)
+
+  -- they are right where the line's are, and put the line's into a registration
+  pub taken_right : (producers : ℕ) → pairs_right producers (length (take count pairs)) (source_in (take count pairs)) (key_in (take count pairs))
+      ≡ pairs_right producers count (nth_source rest) (nth_key rest)
+  taken_right producers = rw as_many (pairs_same producers count _ _ _ _ source_taken key_taken)
+
+  pub taken_placed : (r : Registration) (consumer : ℕ)
+      → with_pairs (with_count r consumer (length (take count pairs))) consumer (source_in (take count pairs)) (key_in (take count pairs)) 0 (length (take count pairs))
+      ≡ with_pairs (with_count r consumer count) consumer (nth_source rest) (nth_key rest) 0 count
+  taken_placed r consumer =
+      rw as_many (pairs_placed_same (with_count r consumer count) consumer _ _ _ _ 0 count (λ k h. source_taken k (omega arith)) (λ k h. key_taken k (omega arith)))

@@ -1,18 +1,12 @@
--- The numbers and keys of a consumer put into the registration one priority after the other. Assumes nothing.
+-- The pairs of a consumer put into the registration one priority after the other. Assumes nothing.
 use Prim.Native.Nat.{ℕ, zero, suc, ◌+◌, ◌-◌, ◌*◌, ◌≤◌, ◌<◌}
 use mathlib.Core.Path.{◌≡◌, refl}
-use mathlib.Core.List.{List, [], ◌∷◌}
-use Rattle.std.specs.Prelude.{Option, Some}
 use native.Mathlib.Omega.{arith}
-use lib.ListN.{get_or}
 use Rattle.registration.specs.declared.Registration.{Registration}
-use Rattle.registration_reader.specs.declared.Pairs.{Pairs}
-use Rattle.registration_text.specs.Reader.{with_point, with_count, with_pair, with_pairs, with_consumer}
-use Rattle.registration_reader.specs.Parts.{by_priority}
-use Rattle.registration_reader.proofs.PairParts.{source_read, key_read}
+use Rattle.registration_text.specs.Reader.{with_pair, with_pairs}
 
 module _ (r : Registration) (consumer : ℕ) (source key : ℕ → ℕ) where
-  pub with_pairs_suc : (priority left : ℕ) → with_pairs r consumer source key priority (suc left)
+  with_pairs_suc : (priority left : ℕ) → with_pairs r consumer source key priority (suc left)
       ≡ with_pairs (with_pair r (5 * consumer + priority) (source priority) (key priority)) consumer source key (suc priority) left
   unfolding with_pairs
   with_pairs_suc priority left = refl
@@ -58,12 +52,3 @@ pairs_producers r consumer source key priority count = (kept consumer source key
 pub pairs_consumers : (r : Registration) (consumer : ℕ) (source key : ℕ → ℕ) (priority count : ℕ)
     → (with_pairs r consumer source key priority count).consumers ≡ r.consumers
 pairs_consumers r consumer source key priority count = (kept consumer source key r priority count).1
-
--- all that an O line says, put into the registration
-pub consumer_placed : (r placed : Registration) (consumer code status count : ℕ) (pairs : Pairs) (rest : Option (List ℕ))
-    → placed ≡ with_point r (r.producers + consumer) code status → pairs ≡ by_priority rest → count ≤ 5
-    → with_pairs (with_count placed consumer count) consumer (λ k. get_or pairs.sources k 0) (λ k. get_or pairs.keys k 0) 0 count
-    ≡ with_consumer r consumer (Some (code ∷ status ∷ count ∷ [])) rest
-consumer_placed r placed consumer code status count pairs rest p is few =
-    rw p
-    (pairs_placed_same _ consumer _ _ _ _ 0 count (λ k h. source_read pairs rest is count few k (omega arith)) (λ k h. key_read pairs rest is count few k (omega arith)))

@@ -1,24 +1,20 @@
 -- The lines of producers, or of consumers, read one after the other: the stage of the whole is that of the lines that are left. Assumes nothing.
 use Prim.Native.Nat.{ℕ, suc, ◌+◌, ◌-◌, ◌≤◌, ◌<◌}
-use mathlib.Core.Path.{◌≡◌, refl, sym, ap, ◌∙◌}
+use mathlib.Core.Path.{◌≡◌, refl, ap, ◌∙◌}
 use mathlib.Core.List.{List}
-use Rattle.std.specs.Prelude.{Option}
+use Rattle.std.specs.Prelude.{Option, Ok, Err}
+use Rattle.std.specs.Result.{result_and}
 use native.Mathlib.Nat.{sub-zero}
 use native.Mathlib.Omega.{arith}
-use lib.ListN.{length, take, drop}
 use Rattle.answers.specs.declared.Refusal.{Refusal}
-use Rattle.answers.specs.declared.Verdict.{Verdict}
-use Rattle.answers.specs.declared.Verdict.TheVariants.{Accepted, Refused}
+use Rattle.answers.specs.Numbers.{Verdict}
 use Rattle.columns.specs.Fields.{nth}
 use Rattle.lines.specs.Line.{first_line, after_line}
-use Rattle.lines.proofs.Laws.{line_part, rest_part, end_within}
 use Rattle.lines.specs.Lines.{line_in}
 use Rattle.registration.specs.declared.Registration.{Registration}
-use Rattle.registration_text.specs.declared.Answer.{Answer}
 use Rattle.registration_text.specs.Lines.{letter_d, widths_d}
-use Rattle.registration_text.specs.Reader.{Stage, going, if_accepted, answered, fixed_in, rest_in, verdict_d, verdict_o, source_in, key_in, with_point, with_count, with_consumer, read_d, read_o}
-use Rattle.registration_reader.specs.Parts.{Reached}
-use Rattle.registration_reader.proofs.Answers.{was_refused, was_accepted}
+use Rattle.registration_text.specs.Reader.{Stage, fixed_in, rest_in, verdict_d, verdict_o, nth_source, nth_key, with_point, with_count, with_consumer, read_d, read_o}
+use Rattle.registration_text.proofs.Going.{going}
 use Rattle.registration_reader.proofs.Placing.{pairs_producers, pairs_consumers}
 
 -- ---- lines that are read in one way: the verdict on a line, and what it puts into the registration
@@ -29,66 +25,48 @@ pub record LineKind : Type 0 where
   pub next : Registration → ℕ → List ℕ → Registration
   pub none_left : (i : ℕ) (r : Registration) (text : List ℕ) → read i 0 r text ≡ going r text
   pub one_more : (i left : ℕ) (r : Registration) (text : List ℕ)
-      → read i (suc left) r text ≡ if_accepted (verdict r (first_line text)) (read (suc i) left (next r i (first_line text)) (after_line text))
+      → read i (suc left) r text ≡ result_and (verdict r (first_line text)) (read (suc i) left (next r i (first_line text)) (after_line text))
   pub producers : (r : Registration) (i : ℕ) (line : List ℕ) → (next r i line).producers ≡ r.producers
   pub consumers : (r : Registration) (i : ℕ) (line : List ℕ) → (next r i line).consumers ≡ r.consumers
 
--- so many lines have been read, from a place of the text up to another
-pub record Reading (kind : LineKind) (text : List ℕ) (count : ℕ) (begun : Registration) (start : ℕ) (r : Registration) (at i : ℕ) : Type 0 where
-  pub within : at ≤ length text
+-- so many lines of a text have been read, and the others are left
+pub record Reading (kind : LineKind) (count : ℕ) (begun : Registration) (text : List ℕ) (r : Registration) (left : List ℕ) (i : ℕ) : Type 0 where
   pub some_left : i ≤ count
-  pub stage : kind.read 0 count begun (drop start text) ≡ kind.read i (count - i) r (drop at text)
+  pub stage : kind.read 0 count begun text ≡ kind.read i (count - i) r left
   pub producers : r.producers ≡ begun.producers
   pub consumers : r.consumers ≡ begun.consumers
 
-pub reading_begins : (kind : LineKind) (text : List ℕ) (count : ℕ) (begun : Registration) (start : ℕ) → start ≤ length text
-    → Reading kind text count begun start begun start 0
-reading_begins kind text count begun start h =
-    record { within = h; some_left = omega arith; stage = rw (sub-zero count); producers = refl; consumers = refl }
+pub reading_begins : (kind : LineKind) (count : ℕ) (begun : Registration) (text : List ℕ) → Reading kind count begun text begun text 0
+reading_begins kind count begun text =
+    record { some_left = omega arith; stage = rw (sub-zero count); producers = refl; consumers = refl }
 
-module _ {kind : LineKind} {text : List ℕ} {count : ℕ} {begun : Registration} {start : ℕ} {r : Registration} {at i : ℕ} (reading : Reading kind text count begun start r at i) where
-  pub reading_ends : count ≤ i
-      → Reached text begun (kind.read 0 count begun (drop start text)) (record { verdict = Accepted; registration = r; at = at })
+module _ {kind : LineKind} {count : ℕ} {begun : Registration} {text : List ℕ} {r : Registration} {left : List ℕ} {i : ℕ} (reading : Reading kind count begun text r left i) where
+  pub reading_ends : count ≤ i → kind.read 0 count begun text ≡ going r left
   reading_ends h =
-      let None : count - i ≡ 0 = omega arith in
-      record {
-        stage = sym (reading.stage ∙ rw None (kind.none_left i r (drop at text)));
-        within = reading.within;
-        producers = reading.producers;
-        consumers = reading.consumers;
-      }
+      let none : count - i ≡ 0 = omega arith in
+      reading.stage ∙ rw none (kind.none_left i r left)
 
-  module _ (h : i < count) (end : ℕ) (ends : end ≡ at + length (first_line (drop at text))) (a : Answer)
-      (is : a ≡ answered (kind.verdict r (take (end - at) (drop at text))) (kind.next r i (take (end - at) (drop at text)))) where
-    -- the stage, with the line's verdict in front
-    stage_next : kind.read 0 count begun (drop start text)
-        ≡ if_accepted (kind.verdict r (take (end - at) (drop at text))) (kind.read (suc i) (count - suc i) (kind.next r i (take (end - at) (drop at text))) (drop end text))
+  module _ (h : i < count) where
+    -- the stage, with the next line's verdict in front
+    stage_next : kind.read 0 count begun text
+        ≡ result_and (kind.verdict r (first_line left)) (kind.read (suc i) (count - suc i) (kind.next r i (first_line left)) (after_line left))
     stage_next =
         let more : count - i ≡ suc (count - suc i) = omega arith in
-        reading.stage ∙ rw (more, line_part text at end ends, rest_part text at end ends) (kind.one_more i (count - suc i) r (drop at text))
+        reading.stage ∙ rw more (kind.one_more i (count - suc i) r left)
 
-    pub reading_stops : (refusal : Refusal) → a.verdict ≡ Refused refusal
-        → Reached text begun (kind.read 0 count begun (drop start text)) (record { verdict = Refused refusal; registration = r; at = at })
-    reading_stops refusal e =
-        let line = take (end - at) (drop at text) in
-        record {
-          stage = sym (stage_next ∙ rw (was_refused (kind.verdict r line) (kind.next r i line) a refusal is e));
-          within = reading.within;
-          producers = reading.producers;
-          consumers = reading.consumers;
-        }
+    pub reading_stops : (refusal : Refusal) → kind.verdict r (first_line left) ≡ Err refusal → kind.read 0 count begun text ≡ Err refusal
+    reading_stops refusal e = stage_next ∙ rw e
 
-    pub reading_goes : a.verdict ≡ Accepted → Reading kind text count begun start a.registration end (i + 1)
-    reading_goes e =
-        let line = take (end - at) (drop at text) in
-        let accepted = was_accepted (kind.verdict r line) (kind.next r i line) a is e in
-        let next : i + 1 ≡ suc i = omega arith in
+    pub reading_goes : (next : Registration) → kind.verdict r (first_line left) ≡ Ok tt → next ≡ kind.next r i (first_line left)
+        → Reading kind count begun text next (after_line left) (i + 1)
+    reading_goes next accepted is =
+        let line = first_line left in
+        let one : i + 1 ≡ suc i = omega arith in
         record {
-          within = end_within text at end ends reading.within;
           some_left = omega arith;
-          stage = rw next (stage_next ∙ rw (accepted.0, accepted.1));
-          producers = ap (λ (r : Registration). r.producers) accepted.1 ∙ kind.producers r i line ∙ reading.producers;
-          consumers = ap (λ (r : Registration). r.consumers) accepted.1 ∙ kind.consumers r i line ∙ reading.consumers;
+          stage = rw (one, is) (stage_next ∙ rw accepted);
+          producers = ap (λ (r : Registration). r.producers) is ∙ kind.producers r i line ∙ reading.producers;
+          consumers = ap (λ (r : Registration). r.consumers) is ∙ kind.consumers r i line ∙ reading.consumers;
         }
 
 -- ---- the D lines
@@ -99,7 +77,7 @@ module _ (r : Registration) (text : List ℕ) where
   read_d_none producer = refl
 
   pub read_d_more : (producer left : ℕ) → let numbers = line_in letter_d widths_d (first_line text) in
-      read_d producer (suc left) r text ≡ if_accepted (verdict_d numbers) (read_d (suc producer) left (with_point r producer (nth 0 numbers) (nth 1 numbers)) (after_line text))
+      read_d producer (suc left) r text ≡ result_and (verdict_d numbers) (read_d (suc producer) left (with_point r producer (nth 0 numbers) (nth 1 numbers)) (after_line text))
   unfolding read_d
   read_d_more producer left = refl
 
@@ -132,18 +110,18 @@ module _ (r : Registration) (text : List ℕ) where
   read_o_none consumer = refl
 
   pub read_o_more : (consumer left : ℕ) → let fixed = fixed_in (first_line text) in let rest = rest_in (nth 2 fixed) (first_line text) in
-      read_o consumer (suc left) r text ≡ if_accepted (verdict_o r.producers fixed rest) (read_o (suc consumer) left (with_consumer r consumer fixed rest) (after_line text))
+      read_o consumer (suc left) r text ≡ result_and (verdict_o r.producers fixed rest) (read_o (suc consumer) left (with_consumer r consumer fixed rest) (after_line text))
   unfolding read_o
   read_o_more consumer left = refl
 
 module _ (r : Registration) (consumer : ℕ) (fixed rest : Option (List ℕ)) where
   pub consumer_producers : (with_consumer r consumer fixed rest).producers ≡ r.producers
   unfolding with_point with_count
-  consumer_producers = pairs_producers _ consumer (source_in rest) (key_in rest) 0 (nth 2 fixed)
+  consumer_producers = pairs_producers _ consumer (nth_source rest) (nth_key rest) 0 (nth 2 fixed)
 
   pub consumer_consumers : (with_consumer r consumer fixed rest).consumers ≡ r.consumers
   unfolding with_point with_count
-  consumer_consumers = pairs_consumers _ consumer (source_in rest) (key_in rest) 0 (nth 2 fixed)
+  consumer_consumers = pairs_consumers _ consumer (nth_source rest) (nth_key rest) 0 (nth 2 fixed)
 
 abbrev pub consumer_lines : LineKind
 consumer_lines =

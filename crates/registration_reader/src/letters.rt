@@ -1,18 +1,37 @@
-// The column readers for the letters G, D and O: each is handed one line, a part of the caller's text.
-ghost use Rattle.std.specs.Prelude.{◌≡◌, ℕ, ◌+◌, ◌*◌, ◌≤◌, ◌<◌, length, get_or, None};
+// The lines of the letters G, D and O: each is read into the registration, or refused.
+ghost use Rattle.std.specs.Prelude.{◌≡◌, ℕ, ◌+◌, ◌*◌, ◌≤◌, ◌<◌, length, OnOk, Ok, Some, MatchOption};
+ghost use Rattle.std.specs.Result.{result_and};
 ghost use Rattle.columns.specs.Fields.{nth, numbers_in};
-ghost use Rattle.lines.specs.Lines.{line_in, three_of};
-ghost use Rattle.registration_text.specs.Lines.{letter_g, letter_d, widths_g, widths_d, widths_of_pairs};
-ghost use Rattle.registration_text.specs.Reader.{fixed_in, rest_in, with_point, with_count, with_pairs};
-ghost use Rattle.registration_reader.specs.Parts.{by_priority, group_answer, producer_answer, consumer_answer};
+ghost use Rattle.lines.specs.Lines.{line_in};
+ghost use Rattle.registration.specs.Rules.{source_in, key_in};
+ghost use Rattle.registration_text.specs.Lines.{letter_g, letter_d, widths_g, widths_d, widths_of_pairs, pairs_from};
+ghost use Rattle.registration_text.specs.Reader.{fixed_in, rest_in, verdict_g, verdict_d, verdict_o, with_counts, with_point, with_count, with_pairs, with_consumer};
 
-use super::Pairs;
-use super::reader::refused;
-use answers::{Refusal, Verdict};
-use columns::Number;
-use lines::{Three, Two};
-use registration::Registration;
-use registration_text::Answer;
+use answers::Refusal;
+use lines::Format;
+use registration::{Pair, Registration};
+
+// The line of the group: producers, consumers, iteration.
+const GROUP: Format<3> = Format {
+    letter: b'G',
+    widths: [4, 4, 2],
+};
+
+// The line of a producer: code, status.
+const PRODUCER: Format<2> = Format {
+    letter: b'D',
+    widths: [19, 2],
+};
+
+// The widths of the fixed part of a consumer's line, which has code, status and count, and of each pair after it, a producer's number and the key.
+const FIXED: [usize; 3] = [19, 2, 2];
+
+const PAIR: [usize; 2] = [4, 6];
+
+// The bytes of a consumer's line up to its pairs, and of a pair.
+const FIXED_BYTES: usize = 24;
+
+const PAIR_BYTES: usize = 10;
 
 // The most that a line may say.
 const STATUS_MOST: u64 = Registration::STATUS_MOST as u64;
@@ -21,193 +40,140 @@ const ITERATION_MOST: u64 = Registration::ITERATION_MOST as u64;
 
 const SOURCES_MOST: u64 = Registration::SOURCES as u64;
 
-// The bytes of an O line's fixed part.
-const FIXED_O: usize = 24;
-
 // Reads a G line: a registration with its counts, and no points yet.
-pub fn read_group(line: &[u8]) -> Answer
-    ensures { result ≡ group_answer (line_in letter_g widths_g line.now) }
+#[tactic(auto, using(answers::proofs::Refusals::refusals), unfolding(registration_text::specs::Reader::verdict_g))]
+pub fn read_group(line: &[u8]) -> Result<Registration, Refusal>
+    ensures { let numbers = line_in letter_g widths_g line.now in result ≡ result_and (verdict_g numbers) (Ok (with_counts (nth 0 numbers) (nth 1 numbers) (nth 2 numbers))) }
 {
-    let Three::Are(producers, consumers, iteration) = lines::line_of_three(line, b'G', 4, 4, 2)
-    else {
-        return refused(Refusal::NotInColumns);
-    };
+    let [producers, consumers, iteration] = GROUP.read(line).ok_or(Refusal::NotInColumns)?;
     if !registration::point_counts_right(producers as usize, consumers as usize) {
-        return refused(Refusal::CountOutside);
+        return Err(Refusal::CountOutside);
     }
-    if ITERATION_MOST < iteration {
-        return refused(Refusal::StatusOrIterationAbove);
+    if iteration > ITERATION_MOST {
+        return Err(Refusal::StatusOrIterationAbove);
     }
-    let mut counted = Registration::empty();
-    counted.producers = producers as usize;
-    counted.consumers = consumers as usize;
-    counted.iteration = iteration as u8;
-    Answer {
-        verdict: Verdict::Accepted,
-        registration: counted,
-    }
+    let mut registration = Registration::empty();
+    registration.producers = producers as usize;
+    registration.consumers = consumers as usize;
+    registration.iteration = iteration as u8;
+    Ok(registration)
 }
 
-// The registration with code and status of a point.
-fn with_point(registration: Registration, point: usize, code: u64, status: u8) -> Registration
+// Puts code and status of a point into the registration.
+#[tactic(auto, unfolding(registration_text::specs::Reader::with_point))]
+fn put_point(registration: &mut Registration, point: usize, code: u64, status: u8)
     requires { point < 64 }
-    ensures { result ≡ with_point registration point code status }
+    ensures { registration.new ≡ with_point registration.old point code status }
 {
-    let mut next = registration;
-    next.codes[point] = code;
-    next.statuses[point] = status;
-    next
+    registration.codes[point] = code;
+    registration.statuses[point] = status;
 }
 
 // Reads a producer's D line into the registration.
-pub fn read_producer(line: &[u8], registration: Registration, producer: usize) -> Answer
+#[tactic(auto, using(answers::proofs::Refusals::refusals), unfolding(registration_text::specs::Reader::verdict_d))]
+pub fn read_producer(
+    line: &[u8],
+    registration: &mut Registration,
+    producer: usize,
+) -> Result<(), Refusal>
     requires { producer < 64 }
-    ensures { result ≡ producer_answer (line_in letter_d widths_d line.now) registration producer }
+    ensures verdict { result ≡ verdict_d (line_in letter_d widths_d line.now) }
+    ensures stored { let numbers = line_in letter_d widths_d line.now in OnOk result (registration.new ≡ with_point registration.old producer (nth 0 numbers) (nth 1 numbers)) }
 {
-    let Two::Are(code, status) = lines::line_of_two(line, b'D', 19, 2) else {
-        return refused(Refusal::NotInColumns);
-    };
-    if STATUS_MOST < status {
-        return refused(Refusal::StatusOrIterationAbove);
+    let [code, status] = PRODUCER.read(line).ok_or(Refusal::NotInColumns)?;
+    if status > STATUS_MOST {
+        return Err(Refusal::StatusOrIterationAbove);
     }
     if !registration::code_true(code) {
-        return refused(Refusal::CodeFalse);
+        return Err(Refusal::CodeFalse);
     }
-    Answer {
-        verdict: Verdict::Accepted,
-        registration: with_point(registration, producer, code, status as u8),
-    }
+    put_point(registration, producer, code, status as u8);
+    Ok(())
 }
 
 // The numbers of an O line's fixed part: code, status, count.
-fn fixed_numbers(line: &[u8]) -> Three
-    ensures { three_of result ≡ fixed_in line.now }
+#[tactic(auto, unfolding(registration_text::specs::Reader::fixed_in))]
+fn read_fixed(line: &[u8]) -> Option<[u64; 3]>
+    ensures { result ≡ fixed_in line.now }
 {
-    if line.len() < FIXED_O {
-        return Three::Bad;
+    if line.len() < FIXED_BYTES || line[0] != b'O' {
+        return None;
     }
-    if line[0] != b'O' {
-        return Three::Bad;
-    }
-    lines::read_three(&line[1..], 19, 2, 2)
+    lines::read_columns(&line[1..], &FIXED)
 }
 
-// The producers' numbers and keys in the columns at the front of the bytes.
-fn pair_numbers(bytes: &[u8], count: usize) -> Pairs
+// The pairs in the columns at the front of the bytes, so many of them, and pairs of zeros after them.
+fn read_pairs(bytes: &[u8], count: usize) -> Option<[Pair; 5]>
     requires count_bound { count ≤ 5 }
     requires count_in_bounds { 10 * count ≤ length bytes.now }
-    ensures { result ≡ by_priority (numbers_in (widths_of_pairs count) bytes.now) }
+    ensures { let numbers = numbers_in (widths_of_pairs count) bytes.now in MatchOption result (numbers ≡ None) (λ pairs. numbers ≡ Some (pairs_from (source_in pairs) (key_in pairs) 0 count)) }
 {
-    let mut sources = [0; 5];
-    let mut keys = [0; 5];
-    let mut priority = 0;
-    let mut at = 0;
-    while priority < count {
-        let middle = at + 4;
-        let end = at + 10;
-        let Number::Is(source) = columns::read_number(&bytes[at..middle]) else {
-            return no_pairs();
-        };
-        let Number::Is(key) = columns::read_number(&bytes[middle..end]) else {
-            return no_pairs();
-        };
-        sources[priority] = source;
-        keys[priority] = key;
-        priority += 1;
-        at = end;
+    let mut pairs = [Pair { source: 0, key: 0 }; 5];
+    let mut rest = bytes;
+    for pair in pairs[..count].iter_mut() {
+        let [source, key] = lines::read_columns(rest, &PAIR)?;
+        *pair = Pair { source, key };
+        rest = &rest[PAIR_BYTES..];
     }
-    Pairs {
-        good: true,
-        sources,
-        keys,
-    }
+    Some(pairs)
 }
 
-// What stands for numbers that are not in their columns.
-fn no_pairs() -> Pairs
-    ensures { result ≡ by_priority None }
-{
-    Pairs {
-        good: false,
-        sources: [0; 5],
-        keys: [0; 5],
-    }
-}
-
-// The numbers of an O line's rest, after the fixed part: so many producers' numbers and keys.
-fn rest_numbers(line: &[u8], count: usize) -> Pairs
+// The pairs of an O line's rest, after the fixed part: so many of them, and nothing else before the line's end.
+#[tactic(auto, using(lines::proofs::Parts::tail_part), unfolding(registration_text::specs::Reader::rest_in))]
+fn read_rest(line: &[u8], count: usize) -> Option<[Pair; 5]>
     requires { count ≤ 5 }
-    ensures { result ≡ by_priority (rest_in count line.now) }
+    ensures { let numbers = rest_in count line.now in MatchOption result (numbers ≡ None) (λ pairs. numbers ≡ Some (pairs_from (source_in pairs) (key_in pairs) 0 count)) }
 {
-    let length = 10 * count + 25;
-    if line.len() != length {
-        return no_pairs();
+    let end = FIXED_BYTES + PAIR_BYTES * count;
+    if line.len() != end + 1 || line[end] != lines::LINE_FEED {
+        return None;
     }
-    if line[length - 1] != lines::LINE_FEED {
-        return no_pairs();
-    }
-    pair_numbers(&line[FIXED_O..], count)
+    read_pairs(&line[FIXED_BYTES..], count)
 }
 
-// The registration with how many producers a consumer names, and with their numbers and keys by priority.
-fn with_pairs(
-    registration: Registration,
-    consumer: usize,
-    count: usize,
-    sources: &[u64; 5],
-    keys: &[u64; 5],
-) -> Registration
-    requires consumer_bound { (consumer < 64) × (count ≤ 5) }
-    requires by_index { (k : ℕ) → k < count → (get_or sources.now k 0 < 256) × (get_or keys.now k 0 < 65536) }
-    ensures { result ≡ with_pairs (with_count registration consumer count) consumer (λ k. get_or sources.now k 0) (λ k. get_or keys.now k 0) 0 count }
+// Puts how many producers a consumer names into the registration, and its pairs by priority.
+fn put_pairs(registration: &mut Registration, consumer: usize, pairs: &[Pair])
+    requires consumer_bound { (consumer < 64) × (length pairs.now ≤ 5) }
+    requires by_index { (k : ℕ) → k < length pairs.now → (source_in pairs.now k < 256) × (key_in pairs.now k < 65536) }
+    ensures { registration.new ≡ with_pairs (with_count registration.old consumer (length pairs.now)) consumer (source_in pairs.now) (key_in pairs.now) 0 (length pairs.now) }
 {
-    let mut next = registration;
-    next.counts[consumer] = count as u8;
-    let mut priority = 0;
-    while priority < count {
-        let place = 5 * consumer + priority;
-        next.sources[place] = sources[priority] as u8;
-        next.keys[place] = keys[priority] as u16;
-        priority += 1;
+    registration.counts[consumer] = pairs.len() as u8;
+    let first = Registration::SOURCES * consumer;
+    for (priority, pair) in pairs.iter().enumerate() {
+        registration.sources[first + priority] = pair.source as u8;
+        registration.keys[first + priority] = pair.key as u16;
     }
-    next
 }
 
 // Reads a consumer's O line into the registration.
-pub fn read_consumer(line: &[u8], registration: Registration, consumer: usize) -> Answer
-    requires { registration.producers + consumer < 64 }
-    ensures { result ≡ consumer_answer (fixed_in line.now) (rest_in (nth 2 (fixed_in line.now)) line.now) registration consumer }
+#[tactic(auto, using(answers::proofs::Refusals::refusals), unfolding(registration_text::specs::Reader::verdict_o))]
+pub fn read_consumer(
+    line: &[u8],
+    registration: &mut Registration,
+    consumer: usize,
+) -> Result<(), Refusal>
+    requires { registration.old.producers + consumer < 64 }
+    ensures verdict { let fixed = fixed_in line.now in result ≡ verdict_o registration.old.producers fixed (rest_in (nth 2 fixed) line.now) }
+    ensures stored { let fixed = fixed_in line.now in OnOk result (registration.new ≡ with_consumer registration.old consumer fixed (rest_in (nth 2 fixed) line.now)) }
 {
-    let Three::Are(code, status, number) = fixed_numbers(line) else {
-        return refused(Refusal::NotInColumns);
-    };
-    if number < 1 {
-        return refused(Refusal::CountOutside);
-    }
-    if SOURCES_MOST < number {
-        return refused(Refusal::CountOutside);
+    let [code, status, number] = read_fixed(line).ok_or(Refusal::NotInColumns)?;
+    if !(1..=SOURCES_MOST).contains(&number) {
+        return Err(Refusal::CountOutside);
     }
     let count = number as usize;
-    let pairs = rest_numbers(line, count);
-    if !pairs.good {
-        return refused(Refusal::NotInColumns);
-    }
-    if STATUS_MOST < status {
-        return refused(Refusal::StatusOrIterationAbove);
+    let pairs = read_rest(line, count).ok_or(Refusal::NotInColumns)?;
+    if status > STATUS_MOST {
+        return Err(Refusal::StatusOrIterationAbove);
     }
     if !registration::code_true(code) {
-        return refused(Refusal::CodeFalse);
+        return Err(Refusal::CodeFalse);
     }
-    let sources = pairs.sources;
-    let keys = pairs.keys;
-    let producers = registration.producers;
-    if !registration::pairs_right(&sources, &keys, count, producers) {
-        return refused(Refusal::ProducerOrKeyWrong);
+    let pairs = &pairs[..count];
+    if !registration::pairs_right(pairs, registration.producers) {
+        return Err(Refusal::ProducerOrKeyWrong);
     }
-    let point = producers + consumer;
-    let placed = with_point(registration, point, code, status as u8);
-    Answer {
-        verdict: Verdict::Accepted,
-        registration: with_pairs(placed, consumer, count, &sources, &keys),
-    }
+    let point = registration.producers + consumer;
+    put_point(registration, point, code, status as u8);
+    put_pairs(registration, consumer, pairs);
+    Ok(())
 }

@@ -1,55 +1,48 @@
 // Reads a registration from its text.
 #![tactic(auto)]
 
-ghost use Rattle.std.specs.Prelude.{◌≡◌};
-ghost use Rattle.registration_text.specs.Reader.{read_text};
+ghost use Rattle.std.specs.Prelude.{◌≡◌, ◌+◌, ◌≤◌};
+ghost use Rattle.registration_text.specs.Reader.{read_text, verdict_of_all};
 
-use answers::Verdict;
+use answers::Refusal;
 use registration::Registration;
-use registration_text::Answer;
 
 mod letters;
-mod reader;
 
-// The producers' numbers and the keys of an O line by priority, zeros after them and where they are not in their columns.
-#[derive(Clone, Copy)]
-pub struct Pairs {
-    pub good: bool,
-    pub sources: [u64; 5],
-    pub keys: [u64; 5],
-}
-
-// A text that has been read up to a place.
-#[derive(Clone, Copy)]
-pub struct Progress {
-    pub verdict: Verdict,
-    pub registration: Registration,
-    pub at: usize,
+// Judges what was read, and the text that is left after it, by the rules that concern the whole.
+#[tactic(auto, using(answers::proofs::Refusals::refusals), unfolding(registration_text::specs::Reader::verdict_of_all))]
+fn judge(registration: &Registration, rest: &[u8]) -> Result<(), Refusal>
+    requires { registration.now.producers + registration.now.consumers ≤ 64 }
+    ensures { result ≡ verdict_of_all registration.now rest.now }
+{
+    if !rest.is_empty() {
+        return Err(Refusal::NotInColumns);
+    }
+    if !lists::differ(&registration.codes[..registration.points()]) {
+        return Err(Refusal::CodeTwice);
+    }
+    if !registration.keys_right() {
+        return Err(Refusal::KeysAbove);
+    }
+    Ok(())
 }
 
 // Reads a registration from its text.
-pub fn read(text: &[u8]) -> Answer
+pub fn read(text: &[u8]) -> Result<Registration, Refusal>
     ensures { result ≡ read_text text.now }
 {
-    let end = lines::line_end(text, 0);
-    let group = letters::read_group(&text[..end]);
-    let verdict = group.verdict;
-    if let Verdict::Refused(refusal) = verdict {
-        return reader::refused(refusal);
+    let (line, mut rest) = lines::split_line(text);
+    let mut registration = letters::read_group(line)?;
+    for producer in 0..registration.producers {
+        let (line, others) = lines::split_line(rest);
+        letters::read_producer(line, &mut registration, producer)?;
+        rest = others;
     }
-    let counted = group.registration;
-    let producers = reader::read_producers(text, end, counted);
-    let verdict = producers.verdict;
-    if let Verdict::Refused(refusal) = verdict {
-        return reader::refused(refusal);
+    for consumer in 0..registration.consumers {
+        let (line, others) = lines::split_line(rest);
+        letters::read_consumer(line, &mut registration, consumer)?;
+        rest = others;
     }
-    let supplied = producers.registration;
-    let consumers = reader::read_consumers(text, producers.at, supplied);
-    let verdict = consumers.verdict;
-    if let Verdict::Refused(refusal) = verdict {
-        return reader::refused(refusal);
-    }
-    let whole = consumers.registration;
-    let at = consumers.at;
-    reader::judged(whole, &text[at..])
+    judge(&registration, rest)?;
+    Ok(registration)
 }

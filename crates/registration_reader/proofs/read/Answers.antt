@@ -1,64 +1,79 @@
 -- `registration_reader::read` meets its contract: stage by stage, by `Whole.antt`. Assumes nothing.
-use Prim.Native.Nat.{ℕ, ◌+◌, ◌≤◌}
-use mathlib.Core.Path.{◌≡◌, sym, ap, ◌∙◌}
-use mathlib.Core.List.{List}
+use Prim.Native.Nat.{◌+◌, ◌≤◌}
+use mathlib.Core.Path.{◌≡◌, sym, ◌∙◌}
 use native.Mathlib.Omega.{arith}
-use lib.ListN.{drop}
-use lib.Seq.{length-take-le}
-use Rattle.registration_text.specs.Reader.{going, answered, verdict_of_all, read_g}
-use Rattle.lines.proofs.Parts.{tail_part}
-use Rattle.lines.proofs.Laws.{end_within}
-use Rattle.registration_reader.proofs.Whole.{group_stops, group_goes, group_within, reached_stops, reached_goes, stops_first, stops_second, stops_third, goes_on}
+use Rattle.std.proofs.lemmas.Result.{err_from_is_err_and}
+use Rattle.registration_text.specs.Reader.{read_g}
+use Rattle.registration_text.proofs.Going.{going}
+use Rattle.registration_reader.proofs.Stages.{reading_ends, reading_stops, reading_goes}
+use Rattle.registration_reader.proofs.Whole.{group_stops, group_goes, group_within, stops_first, stops_second, stops_third, stops_last, goes_on}
 use Rattle.registration_reader.proofs.read.Goals as goal
-use Rattle.registration_reader.proofs.read.Goals.{In_default}
+use Rattle.registration_reader.proofs.read.Goals.{In_ok-registration}
 
 -- the G line is accepted: its counts are within bounds, and the reading goes on after it
-within : (c : In_default) → let r = c.read_group-group.result.registration in r.producers + r.consumers ≤ 64
-within c =
-    group_within _ _ c.line_end-end.ensures _ c.read_group-group.ensures c.in_default.is
+within : (c : In_ok-registration) → let r = c.in_ok-registration.registration in r.producers + r.consumers ≤ 64
+within c = group_within c.args.text.now _ (rw c.split_line.ensures.line at (sym c.read_group.ensures ∙ c.in_ok-registration.was))
 
-begun : (c : In_default) → let text = c.args.text.now in
-    read_g text ≡ going c.read_group-group.result.registration (drop c.line_end-end.result text)
+begun : (c : In_ok-registration) → read_g c.args.text.now ≡ going c.in_ok-registration.registration c.split_line.result.1.now
 begun c =
-    group_goes _ _ c.line_end-end.ensures _ c.read_group-group.ensures c.in_default.is
+    rw c.split_line.ensures.rest (group_goes c.args.text.now _ (rw c.split_line.ensures.line at (sym c.read_group.ensures ∙ c.in_ok-registration.was)))
 
-pub slice_bounds-read_group-end : goal.slice_bounds-read_group-end
-slice_bounds-read_group-end c = sym (length-take-le _ _ (end_within _ 0 _ c.line_end-end.ensures (omega arith)))
+pub returns-in_err-registration : goal.returns-in_err-registration
+returns-in_err-registration c =
+    let p = err_from_is_err_and c.from_residual.result c.from_residual.ensures.1 in
+    rw (p.1, p.2)
+    (stops_first c.args.text.now _ (group_stops c.args.text.now _ (rw c.split_line.ensures.line at (sym c.read_group.ensures ∙ c.in_err-registration.was))))
 
-pub returns-in-Refused : goal.returns-in-Refused
-returns-in-Refused c =
-    c.refused.ensures
-    ∙ stops_first _ _ (group_stops _ _ c.line_end-end.ensures _ c.read_group-group.ensures _ c.in-Refused.is)
+pub read_producer-requires : goal.read_producer-requires
+read_producer-requires c = omega (arith, within (goal.at.read_producer-requires c).In_ok-registration)
 
-pub read_producers-producers-requires : goal.read_producers-producers-requires
-read_producers-producers-requires c = (end_within _ 0 _ c.line_end-end.ensures (omega arith), omega (arith, within (goal.at.read_producers-producers-requires c).In_default))
+pub returns-in_err-read_producer : goal.returns-in_err-read_producer
+returns-in_err-read_producer c =
+    let p = err_from_is_err_and c.from_residual-in_err-read_producer.result c.from_residual-in_err-read_producer.ensures.1 in
+    let e = rw c.split_line-in-loop-producer.ensures.line at (sym c.read_producer.ensures.verdict ∙ c.in_err-read_producer.was) in
+    rw (p.1, p.2)
+    (stops_second c.args.text.now _ _ (begun (goal.at.returns-in_err-read_producer c).In_ok-registration) _
+    (reading_stops c.loop-producer.invariant c.loop-producer-test.true _ e))
 
-pub returns-in-Refused-verdict : goal.returns-in-Refused-verdict
-returns-in-Refused-verdict c =
-    c.refused-in-Refused-verdict.ensures
-    ∙ stops_second _ _ _ (begun (goal.at.returns-in-Refused-verdict c).In_default) _ (reached_stops c.read_producers-producers.ensures _ c.in-Refused-verdict.is)
+pub loop-producer-preserved : goal.loop-producer-preserved
+loop-producer-preserved c =
+    let line = c.split_line-in-loop-producer.ensures.line in
+    rw c.split_line-in-loop-producer.ensures.rest
+    (reading_goes c.loop-producer.invariant c.loop-producer-test.true _
+    (rw line at (sym c.read_producer.ensures.verdict ∙ c.in_ok-read_producer.was)) (rw line at c.in_ok-read_producer.ensures.stored))
 
-pub read_consumers-consumers-requires : goal.read_consumers-consumers-requires
-read_consumers-consumers-requires c =
-    let reached = c.read_producers-producers.ensures in
-    (reached.within, omega (arith, within (goal.at.read_consumers-consumers-requires c).In_default, reached.producers, reached.consumers))
+pub read_consumer-requires : goal.read_consumer-requires
+read_consumer-requires c = omega (arith, within (goal.at.read_consumer-requires c).In_ok-registration)
 
-pub returns-in-Refused-verdict-2 : goal.returns-in-Refused-verdict-2
-returns-in-Refused-verdict-2 c =
-    let supplied = reached_goes c.read_producers-producers.ensures c.in_default-verdict.is in
-    c.refused-in-Refused-verdict-2.ensures
-    ∙ stops_third _ _ _ (begun (goal.at.returns-in-Refused-verdict-2 c).In_default) _ _ supplied _ (reached_stops c.read_consumers-consumers.ensures _ c.in-Refused-verdict-2.is)
+pub returns-in_err-read_consumer : goal.returns-in_err-read_consumer
+returns-in_err-read_consumer c =
+    let p = err_from_is_err_and c.from_residual-in_err-read_consumer.result c.from_residual-in_err-read_consumer.ensures.1 in
+    let e = rw c.split_line-in-loop-consumer.ensures.line at (sym c.read_consumer.ensures.verdict ∙ c.in_err-read_consumer.was) in
+    rw (p.1, p.2)
+    (stops_third c.args.text.now _ _ (begun (goal.at.returns-in_err-read_consumer c).In_ok-registration) _ _
+    (reading_ends c.loop-producer.invariant c.loop-producer-test.false) _
+    (reading_stops c.loop-consumer.invariant c.loop-consumer-test.true _ e))
 
-pub judged-requires : goal.judged-requires
-judged-requires c =
-    let reached = c.read_consumers-consumers.ensures in
-    omega (arith, within (goal.at.judged-requires c).In_default, c.read_producers-producers.ensures.producers, c.read_producers-producers.ensures.consumers, reached.producers, reached.consumers)
+pub loop-consumer-preserved : goal.loop-consumer-preserved
+loop-consumer-preserved c =
+    let line = c.split_line-in-loop-consumer.ensures.line in
+    rw c.split_line-in-loop-consumer.ensures.rest
+    (reading_goes c.loop-consumer.invariant c.loop-consumer-test.true _
+    (rw line at (sym c.read_consumer.ensures.verdict ∙ c.in_ok-read_consumer.was)) (rw line at c.in_ok-read_consumer.ensures.stored))
+
+pub judge-requires : goal.judge-requires
+judge-requires c = omega (arith, within (goal.at.judge-requires c).In_ok-registration)
+
+pub returns-in_err-judge : goal.returns-in_err-judge
+returns-in_err-judge c =
+    let p = err_from_is_err_and c.from_residual-in_err-judge.result c.from_residual-in_err-judge.ensures.1 in
+    rw (p.1, p.2)
+    (stops_last c.args.text.now _ _ (begun (goal.at.returns-in_err-judge c).In_ok-registration) _ _
+    (reading_ends c.loop-producer.invariant c.loop-producer-test.false) _ _
+    (reading_ends c.loop-consumer.invariant c.loop-consumer-test.false) _ (sym c.judge.ensures ∙ c.in_err-judge.was))
 
 pub returns : goal.returns
 returns c =
-    let p = c.read_consumers-consumers.result in
-    let text = c.args.text.now in
-    let supplied = reached_goes c.read_producers-producers.ensures c.in_default-verdict.is in
-    c.judged.ensures
-    ∙ ap (λ (left : List ℕ). answered (verdict_of_all p.registration left) p.registration) (tail_part text p.at)
-    ∙ goes_on text _ _ (begun (goal.at.returns c).In_default) _ _ supplied _ _ (reached_goes c.read_consumers-consumers.ensures c.in_default-verdict-2.is)
+    goes_on c.args.text.now _ _ (begun (goal.at.returns c).In_ok-registration) _ _
+    (reading_ends c.loop-producer.invariant c.loop-producer-test.false) _ _
+    (reading_ends c.loop-consumer.invariant c.loop-consumer-test.false) (sym c.judge.ensures ∙ c.in_ok-judge.was)
