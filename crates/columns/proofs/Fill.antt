@@ -1,13 +1,14 @@
 -- How long a column is, and filling it from its right end. Assumes nothing.
 use Prim.Native.Nat.{ℕ, zero, suc, ◌+◌, ◌-◌, ◌/◌, ◌%◌, ◌≤◌, ◌<◌}
-use mathlib.Core.Path.{◌≡◌, refl, ◌∙◌}
+use mathlib.Core.Path.{◌≡◌, refl}
 use mathlib.Core.Bool.{Bool, not, ◌&&◌}
 use mathlib.Core.List.{List, [], ◌∷◌, ◌++◌, append_assoc}
 use native.Mathlib.Omega.{arith}
-use native.Mathlib.Numerals.{sub-one}
+use native.Mathlib.Numerals.{add-one, sub-one}
 use lib.Dec.{eqb}
-use lib.ListN.{length, drop, set, length-set, length-append}
-use lib.Seq.{drop-length, drop-cons, drop-set-lt, get_or-set_same}
+use lib.ListN.{length, drop, set, length-append}
+use lib.Seq.{drop-length}
+use Rattle.std.proofs.lemmas.List.{drop-set}
 use Rattle.columns.specs.Column.{byte_before, lead_of, column_of}
 
 pub length_lead : (minus : Bool) (w n : ℕ) → length (lead_of minus w n) ≡ w
@@ -20,19 +21,13 @@ unfolding column_of
 length_column minus zero n = refl
 length_column minus (suc w) n = rw (length-append, length_lead minus w (n / 10)) (omega arith)
 
--- what stands from k on after a store at k
-drop_set : (out : List ℕ) (k byte : ℕ) → k < length out → drop k (set out k byte) ≡ byte ∷ drop (suc k) out
-drop_set out k byte h =
-    let l : k < length (set out k byte) = simp length-set h in
-    drop-cons (set out k byte) k 0 l ∙ rw (get_or-set_same out k byte 0 h, drop-set-lt (suc k) out k byte (omega arith))
-
 module _ (out : List ℕ) (minus : Bool) where
   -- what is to be written before i, and what stands from i on
   pub fill_step : (i n : ℕ) → 0 < i → i ≤ length out
       → lead_of minus i n ++ drop i out ≡ lead_of (minus && not (eqb n 0)) (i - 1) (n / 10) ++ drop (i - 1) (set out (i - 1) (byte_before minus n))
   unfolding lead_of
   fill_step zero n h l = absurd (omega arith)
-  fill_step (suc k) n h l = simp (sub-one, drop_set out k (byte_before minus n) l, append_assoc)
+  fill_step (suc k) n h l = simp (sub-one, drop-set out k (byte_before minus n) l, add-one, append_assoc)
 
   pub fill_last : (w n : ℕ) → 0 < w → w ≡ length out
       → column_of minus w n ≡ lead_of minus (w - 1) (n / 10) ++ drop (w - 1) (set out (w - 1) (48 + n % 10))
@@ -40,7 +35,7 @@ module _ (out : List ℕ) (minus : Bool) where
   fill_last zero n h l = absurd (omega arith)
   fill_last (suc k) n h l =
       let e : drop (suc k) out ≡ [] = rw (l, drop-length) in
-      simp (sub-one, drop_set out k (48 + n % 10) (omega arith), e)
+      simp (sub-one, drop-set out k (48 + n % 10) (omega arith), add-one, e)
 
   pub fill_end : (i n : ℕ) → i ≡ 0 → lead_of minus i n ++ drop i out ≡ out
   unfolding lead_of

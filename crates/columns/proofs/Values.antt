@@ -9,17 +9,17 @@ use native.Mathlib.Numerals.{add-one, sub-one}
 use borrow.Author.Tests.{le-ltb, ltb-false}
 use lib.Dec.{eqb, ltb, lit<, eqb-suc-zero}
 use lib.ListN.{length, get_or, drop}
-use lib.Seq.{drop-cons, drop-length}
+use Rattle.std.proofs.lemmas.List.{at_drop_more, at_drop_all}
 use Rattle.columns.specs.Column.{byte_before, lead_of, column_of, digit_of, value_from, space_byte}
 
 pub value_step : (column : List ℕ) (v i : ℕ) → i < length column
     → value_from v (drop i column) ≡ value_from (v * 10 + digit_of (get_or column i 0)) (drop (i + 1) column)
 unfolding value_from
-value_step column v i h = rw (add-one, drop-cons column i 0 h)
+value_step column v i h = at_drop_more (value_from v) column i 0 h
 
 pub value_end : (column : List ℕ) (v i : ℕ) → i ≡ length column → value_from v (drop i column) ≡ v
 unfolding value_from
-value_end column v i e = rw (e, drop-length)
+value_end column v i e = at_drop_all (value_from v) column i (omega arith)
 
 pub tens : (i : ℕ) → 10 ^ (i + 1) ≡ 10 ^ i * 10
 tens i = rw (add-one, pow-suc)

@@ -1,8 +1,8 @@
 // A number in a column of fixed width, read and written.
 #![tactic(auto)]
 
-ghost use Rattle.std.specs.Prelude.{◌≡◌, true, false, not, ◌&&◌, [], ◌∷◌, ◌+◌, ◌≤◌, ◌<◌, leb, eqb, length, get_or};
-ghost use Rattle.columns.specs.Column.{byte_before, column_of, signed_column_of, digit_of, value_from, same_bytes, is_column, number_if, has_minus, number_in, signed_in, space_byte, widest};
+ghost use Rattle.std.specs.Prelude.{◌≡◌, false, ◌&&◌, ◌+◌, ◌≤◌, leb, eqb, length, get_or};
+ghost use Rattle.columns.specs.Column.{byte_before, column_of, signed_column_of, digit_of, value_from, same_bytes, is_column, number_if, number_in, signed_in, space_byte, widest};
 ghost use Rattle.lists.specs.Pages.{Added};
 
 use lists::Page;
@@ -91,6 +91,7 @@ fn begins_well(column: &[u8]) -> bool
 }
 
 // Whether a column is what is written of a value.
+#[tactic(auto, using(crate::proofs::Judged::written_places))]
 fn is_written(column: &[u8], minus: bool, value: u64) -> bool
     requires { length column.now ≤ widest }
     ensures { result ≡ same_bytes (column_of minus (length column.now) value) column.now }
@@ -112,6 +113,7 @@ fn read_digits(column: &[u8], minus: bool) -> Option<u64>
 }
 
 // The number in a column.
+#[tactic(auto, unfolding(crate::specs::Column::number_in))]
 pub fn read_number(column: &[u8]) -> Option<u64>
     ensures { result ≡ number_in column.now }
 {

@@ -1,17 +1,16 @@
--- A line by its parts: framed or refused by each test of the frame, and read column by column. Assumes nothing.
+-- A line by its parts: its frame, and the columns in it one after the other. Assumes nothing.
 use Prim.Native.Nat.{ℕ, ◌+◌, ◌-◌, ◌≤◌, ◌<◌}
-use mathlib.Core.Path.{◌≡◌, refl, sym, ap, ◌∙◌}
-use mathlib.Core.Bool.{true, false, and-false}
+use mathlib.Core.Path.{◌≡◌, refl, ap, ◌∙◌}
+use mathlib.Core.Bool.{true, false}
 use mathlib.Core.List.{List, [], ◌∷◌, ◌++◌, append_assoc, append-nil}
 use Rattle.std.specs.Prelude.{Option, None, Some}
 use Rattle.std.specs.Option.{option_map}
-use Rattle.std.proofs.lemmas.List.{drop_more, drop_all}
-use native.Mathlib.Nat.{add-sub_cancel_left}
+use Rattle.std.proofs.lemmas.List.{drop_more, drop_all, take_rest}
 use native.Mathlib.Omega.{arith}
-use borrow.Author.Tests.{eq-eqb, ne_eqb, eqb-true}
+use borrow.Author.Tests.{eqb-true}
 use lib.Dec.{eqb}
 use lib.ListN.{length, get_or, take, drop, length-drop}
-use lib.Seq.{take_all, drop-drop}
+use lib.Seq.{take_all}
 use Rattle.columns.specs.Column.{number_in}
 use Rattle.columns.specs.Fields.{total, with_first, numbers_in}
 use Rattle.columns.proofs.Laws.{numbers_in_nil, numbers_in_cons}
@@ -20,20 +19,11 @@ use Rattle.lines.specs.Lines.{is_framed, line_in}
 
 -- a part from a place up to the end
 pub tail_part : (bytes : List ℕ) (at : ℕ) → take (length bytes - at) (drop at bytes) ≡ drop at bytes
-tail_part bytes at = take_all (length bytes - at) (drop at bytes) (omega (arith, length-drop at bytes))
+tail_part = take_rest
 
 -- ---- the frame
 
 module _ (letter size : ℕ) (line : List ℕ) where
-  pub framed_size : (length line ≡ size + 2 → ⊥) → false ≡ is_framed letter size line
-  framed_size h = rw (ne_eqb _ _ h)
-
-  pub framed_letter : (get_or line 0 0 ≡ letter → ⊥) → false ≡ is_framed letter size line
-  framed_letter h = rw (ne_eqb _ _ h, and-false)
-
-  pub framed_end : length line ≡ size + 2 → get_or line 0 0 ≡ letter → eqb (get_or line (size + 1) 0) 10 ≡ is_framed letter size line
-  framed_end a b = rw (eq-eqb _ _ a, eq-eqb _ _ b)
-
   pub framed_length : is_framed letter size line ≡ true → length line ≡ size + 2
   framed_length e = eqb-true _ _ (both (eqb (length line) (size + 2)) _ (both _ (eqb (get_or line (size + 1) 0) 10) e).0).0
 
@@ -49,28 +39,6 @@ module _ (letter size : ℕ) (widths line : List ℕ) (sized : total widths ≡ 
   pub out_of_frame : is_framed letter size line ≡ false → None ≡ line_in letter widths line
   unfolding line_in
   out_of_frame e = rw (sized, e)
-
--- ---- the columns
-
--- what stands in the first column, and the numbers of the others
-pub first_column : (bytes : List ℕ) (w : ℕ) (ws : List ℕ) (n : Option ℕ) → n ≡ number_in (take w bytes)
-    → with_first n (numbers_in ws (drop w bytes)) ≡ numbers_in (w ∷ ws) bytes
-first_column bytes w ws n e = rw (numbers_in_cons, e)
-
--- the same of a column from a place on
-pub column : (line : List ℕ) (at w : ℕ) (ws : List ℕ) (n : Option ℕ) → n ≡ number_in (take w (drop at line))
-    → numbers_in (w ∷ ws) (drop at line) ≡ with_first n (numbers_in ws (drop (at + w) line))
-column line at w ws n e = rw (numbers_in_cons, e, drop-drop)
-
--- the last column
-pub last_column : (line : List ℕ) (at w : ℕ) (n : Option ℕ) → n ≡ number_in (take w (drop at line))
-    → numbers_in (w ∷ []) (drop at line) ≡ with_first n (Some [])
-last_column line at w n e = rw (numbers_in_cons, numbers_in_nil, e)
-
--- the last column, as the part between two places
-pub last_part : (line : List ℕ) (at w : ℕ) (n : Option ℕ) → n ≡ number_in (take (at + w - at) (drop at line))
-    → with_first n (Some []) ≡ numbers_in (w ∷ []) (drop at line)
-last_part line at w n e = sym (last_column line at w n (rw add-sub_cancel_left at e))
 
 -- ---- the columns of a list of widths, one after the other
 

@@ -1,8 +1,7 @@
 // The lines of a text, and lines with a letter and numbers in columns, read and written.
 #![tactic(auto)]
 
-ghost use Rattle.std.specs.Prelude.{◌≡◌, [], ◌∷◌, ◌+◌, ◌≤◌, ◌<◌, ◌^◌, eqb, length, position, sum};
-ghost use Rattle.columns.specs.Column.{widest};
+ghost use Rattle.std.specs.Prelude.{◌≡◌, ◌+◌, ◌≤◌, ◌<◌, ◌^◌, eqb, length, position, sum};
 ghost use Rattle.columns.specs.Fields.{total, columns_of, numbers_in};
 ghost use Rattle.lists.specs.Pages.{Added};
 ghost use Rattle.lines.specs.Line.{first_line, after_line};
