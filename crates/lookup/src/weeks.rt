@@ -103,8 +103,8 @@ pub fn earlier_weeks(entries: &[[u64; 3]], asked: Asked, point: u64) -> Weeks
 {
     let near = first_near(point, asked);
     let mut weeks = Weeks::all_sought(point, asked);
-    for i in (0..entries.len()).rev() {
-        let entry = Entry::from(entries[i]);
+    for numbers in entries.iter().rev() {
+        let entry = Entry::from(*numbers);
         if is_near(near, entry.place) {
             weeks.pass(entry, asked.until);
             if weeks.count == WEEKS {

@@ -1,12 +1,17 @@
 -- `lookup::weeks::earlier_weeks` meets its contract: what has been met and what is left give the earlier weeks' sum and number. Assumes nothing.
-use Rattle.std.proofs.Common.{◌-◌, arith, sym, ◌∙◌}
-use Rattle.lookup.proofs.Passed.{next_bounds}
+use Rattle.std.proofs.Common.{◌-◌, ◌≡◌, [], ◌∷◌, ◌++◌, length, arith, sym, ◌∙◌}
+use Rattle.std.proofs.lemmas.List.{length_push, length-reverse}
+use Rattle.std.proofs.lemmas.Iterator.Adapters.{YieldsList-from_rev_slice}
+use Rattle.std.proofs.lemmas.Iterator.Consumers.{YieldsList-turn, YieldsList-end}
+use Rattle.lookup.proofs.Passed.{next_bounds, from_the_end}
 use Rattle.lookup.proofs.Apart.{first_bound}
 use Rattle.lookup.proofs.Passing.{few, passing_none, passing_back, passing_over, passing_met, passing_all}
 use Rattle.lookup.proofs.weeks.earlier_weeks.Goals as goal
 
-pub loop-i-init : goal.loop-i-init
-loop-i-init c = rw c.all_sought-weeks.ensures (passing_none c.args.entries.now c.args.asked c.args.point c.requires.0.right c.requires.0.exists)
+pub loop-numbers-init : goal.loop-numbers-init
+loop-numbers-init c =
+    let all : length c.args.entries.now - 0 ≡ length c.args.entries.now = omega arith in
+    rw (c.all_sought-weeks.ensures, all) (passing_none c.args.entries.now c.args.asked c.args.point c.requires.0.right c.requires.0.exists)
 
 pub is_near-requires : goal.is_near-requires
 is_near-requires c = rw c.first_near-near.ensures (first_bound c.args.asked c.requires.0.exists c.args.point c.requires.1)
@@ -14,33 +19,57 @@ is_near-requires c = rw c.first_near-near.ensures (first_bound c.args.asked c.re
 pub pass-requires : goal.pass-requires
 pass-requires c =
     let a = c.args in
-    let l = c.loop-i in
-    let most = few a.entries.now a.asked a.point l.i l.weeks l.invariant in
-    let bounds = next_bounds a.entries.now (l.i - 1) (omega (arith, l.invariant.within)) c.requires.0.right in
-    (omega (arith, l.invariant.small, most), most, rw c.from-entry.ensures bounds.1)
+    let xs = a.entries.now in
+    let l = c.loop-numbers in
+    let most = few xs a.asked a.point (length xs - length l.yielded) l.weeks l.invariant in
+    let t =
+    from_the_end xs (length l.yielded) c.in-Some.numbers.now
+    (YieldsList-turn (YieldsList-from_rev_slice xs cc) l.yielded _ l.yielded_by _ _ c.in-Some.numbers c.in-Some.is c.next.ensures.steps)
+    in
+    let bounds = next_bounds xs (length xs - length l.yielded - 1) (omega arith) c.requires.0.right in
+    (omega (arith, l.invariant.small, most), most, rw (c.from-entry.ensures, t.1) bounds.1)
 
 pub returns-then-weeks-eq-WEEKS : goal.returns-then-weeks-eq-WEEKS
 returns-then-weeks-eq-WEEKS c =
     let a = c.args in
-    let l = c.loop-i in
-    let back = passing_back a.entries.now a.asked a.point c.requires.0.right l.i l.weeks (omega arith) l.invariant c.pass.new.self (rw c.from-entry.ensures at c.pass.ensures) in
-    passing_met a.entries.now a.asked a.point (l.i - 1) c.pass.new.self back (omega (arith, c.if-weeks-eq-WEEKS.true))
+    let xs = a.entries.now in
+    let l = c.loop-numbers in
+    let t =
+    from_the_end xs (length l.yielded) c.in-Some.numbers.now
+    (YieldsList-turn (YieldsList-from_rev_slice xs cc) l.yielded _ l.yielded_by _ _ c.in-Some.numbers c.in-Some.is c.next.ensures.steps)
+    in
+    let back = passing_back xs a.asked a.point c.requires.0.right (length xs - length l.yielded) l.weeks (omega arith) l.invariant c.pass.new.self (rw (c.from-entry.ensures, t.1) at c.pass.ensures) in
+    passing_met xs a.asked a.point (length xs - length l.yielded - 1) c.pass.new.self back (omega (arith, c.if-weeks-eq-WEEKS.true))
 
-pub loop-i-preserved-else-weeks-eq-WEEKS : goal.loop-i-preserved-else-weeks-eq-WEEKS
-loop-i-preserved-else-weeks-eq-WEEKS c =
+pub loop-numbers-preserved-else-weeks-eq-WEEKS : goal.loop-numbers-preserved-else-weeks-eq-WEEKS
+loop-numbers-preserved-else-weeks-eq-WEEKS c =
     let a = c.args in
-    let l = c.loop-i in
-    passing_back a.entries.now a.asked a.point c.requires.0.right l.i l.weeks (omega arith) l.invariant c.pass.new.self (rw c.from-entry.ensures at c.pass.ensures)
+    let xs = a.entries.now in
+    let l = c.loop-numbers in
+    let t =
+    from_the_end xs (length l.yielded) c.in-Some.numbers.now
+    (YieldsList-turn (YieldsList-from_rev_slice xs cc) l.yielded _ l.yielded_by _ _ c.in-Some.numbers c.in-Some.is c.next.ensures.steps)
+    in
+    let fewer : length xs - length (l.yielded ++ (c.in-Some.numbers ∷ [])) ≡ length xs - length l.yielded - 1 = omega (arith, length_push l.yielded c.in-Some.numbers) in
+    rw fewer (passing_back xs a.asked a.point c.requires.0.right (length xs - length l.yielded) l.weeks (omega arith) l.invariant c.pass.new.self (rw (c.from-entry.ensures, t.1) at c.pass.ensures))
 
-pub loop-i-preserved : goal.loop-i-preserved
-loop-i-preserved c =
+pub loop-numbers-preserved : goal.loop-numbers-preserved
+loop-numbers-preserved c =
     let a = c.args in
-    let l = c.loop-i in
-    let far = rw (c.first_near-near.ensures, c.from-entry.ensures) at (sym c.is_near.ensures ∙ c.if-is_near.false) in
-    passing_over a.entries.now a.asked a.point c.requires.0.right l.i l.weeks (omega arith) l.invariant far
+    let xs = a.entries.now in
+    let l = c.loop-numbers in
+    let t =
+    from_the_end xs (length l.yielded) c.in-Some.numbers.now
+    (YieldsList-turn (YieldsList-from_rev_slice xs cc) l.yielded _ l.yielded_by _ _ c.in-Some.numbers c.in-Some.is c.next.ensures.steps)
+    in
+    let fewer : length xs - length (l.yielded ++ (c.in-Some.numbers ∷ [])) ≡ length xs - length l.yielded - 1 = omega (arith, length_push l.yielded c.in-Some.numbers) in
+    let far = rw (c.first_near-near.ensures, c.from-entry.ensures, t.1) at (sym c.is_near.ensures ∙ c.if-is_near.false) in
+    rw fewer (passing_over xs a.asked a.point c.requires.0.right (length xs - length l.yielded) l.weeks (omega arith) l.invariant far)
 
 pub returns : goal.returns
 returns c =
     let a = c.args in
-    let l = c.loop-i in
-    passing_all a.entries.now a.asked a.point l.i l.weeks l.invariant (omega arith)
+    let xs = a.entries.now in
+    let l = c.loop-numbers in
+    let end = YieldsList-end (YieldsList-from_rev_slice xs cc) l.yielded _ l.yielded_by _ _ c.in-None.is c.next.ensures.steps in
+    passing_all xs a.asked a.point (length xs - length l.yielded) l.weeks l.invariant (omega (arith, end.1, length-reverse xs))
