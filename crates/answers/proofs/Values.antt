@@ -1,14 +1,15 @@
 -- What the answer of a call that gives a value back says of its verdict. Assumes nothing.
 use Rattle.std.proofs.Common.{◌≡◌, refl, Ok, Err}
 use Rattle.answers.specs.declared.Refusal.{Refusal}
-use Rattle.answers.specs.Numbers.{Verdict, with_value}
+use Rattle.std.specs.Result.{result_and}
+use Rattle.answers.specs.Numbers.{Verdict}
 
 -- a refusal is the verdict's
-pub refused_told : {T : Type 0} (verdict : Verdict) (value : T) (refusal : Refusal) → Err refusal ≡ with_value verdict value → verdict ≡ Err refusal
+pub refused_told : {T : Type 0} (verdict : Verdict) (value : T) (refusal : Refusal) → Err refusal ≡ result_and verdict (Ok value) → verdict ≡ Err refusal
 refused_told (Ok _) value refusal e = cc
 refused_told (Err other) value refusal e = cc
 
 -- a value is given where the verdict accepts
-pub given_told : {T : Type 0} (verdict : Verdict) (value : T) (given : T) → Ok given ≡ with_value verdict value → (verdict ≡ Ok tt) × (given ≡ value)
+pub given_told : {T : Type 0} (verdict : Verdict) (value : T) (given : T) → Ok given ≡ result_and verdict (Ok value) → (verdict ≡ Ok tt) × (given ≡ value)
 given_told (Ok _) value given e = (refl, cc)
 given_told (Err other) value given e = cc

@@ -1,26 +1,28 @@
 -- What the tests of a submission rest on: what holds of a group that is not damaged. Assumes nothing.
-use Rattle.std.proofs.Common.{ℕ, ◌*◌, ◌-◌, ◌≤◌, ◌<◌, ◌≡◌, true, false, not, ◌&&◌, leb, eqb, List, length, nat_abs, Ok, Err, None, Some, Result, arith}
-use borrow.Author.Tests.{eq-eqb, ne_eqb}
+use Rattle.std.proofs.Common.{ℕ, ◌*◌, ◌≤◌, ◌≡◌, Bool, true, false, not, ◌&&◌, leb, eqb, List, length, nat_abs, Ok, Err, cond, Option, None, Some, refl, Result, arith}
 use Rattle.std.proofs.lemmas.Grind.{common_steps}
 use Rattle.answers.specs.declared.Refusal.{Refusal}
 use Rattle.answers.specs.declared.Refusal.TheVariants.{ValueWrong, ClockOutside, JournalFull}
-use Rattle.answers.specs.Numbers.{with_value}
+use Rattle.std.specs.Option.{ok_or}
+use Rattle.std.specs.Result.{result_and}
 use Rattle.answers.proofs.Refusals.{order}
 use Rattle.values.specs.Values.{magnitude_most}
 use Rattle.values.specs.declared.Measurement.{Measurement}
 use Rattle.points.specs.Points.{index_of, has, sign_suits}
 use Rattle.lists.proofs.TableLaws.{length_table}
-use Rattle.calendar.specs.Dates.{last_day}
 use Rattle.calendar.specs.Quarters.{quarter_exists}
 use Rattle.calendar.proofs.Laws.{exists_day, exists_quarter}
 use Rattle.registration.specs.declared.Registration.{Registration}
-use Rattle.journal.specs.Value.{value_of, value_in, stored_of}
-use Rattle.journal.specs.Readings.{shown, stamp_of}
+use Rattle.journal.specs.declared.Entry.{Entry}
+use Rattle.journal.specs.Order.{Reading}
+use Rattle.journal.specs.Value.{value_in}
+use Rattle.journal.specs.Entries.{readings_at}
+use Rattle.journal.specs.Readings.{shown, stamp_of, same_as}
 use Rattle.lists.proofs.Cases.{by_test}
 use Rattle.journal.proofs.Stored.{length_entries}
 use Rattle.group.specs.declared.Looked.{Looked}
 use Rattle.group.specs.declared.Looked.TheVariants.{Repeat, New}
-use Rattle.group.specs.Working.{looked_of}
+use Rattle.group.specs.Working.{entry_of, looked_of, repeated}
 use Rattle.group.specs.declared.Numbers.{Numbers}
 use Rattle.group.specs.Group.{Group, roll_of, place_for, readings_for}
 use Rattle.group.specs.Held.{group_in}
@@ -70,54 +72,67 @@ module _ (last : ℕ) (G : Group) (clock : ℕ) (m : Measurement) (k : Known las
   unfolding submission_verdict
   wrong_clock e f = grind (arith, common_steps, order)
 
--- a submission whose reading is not shown yet, or with another value, is no repeat
-module _ (last : ℕ) (G : Group) (m : Measurement) where
-  pub none_shown : None ≡ shown last (readings_for G m) → repeats last G m ≡ false
-  none_shown e = rw (← e)
+-- what was found for a code, by whether the group has it
+pub found_none : (has : Bool) (i : ℕ) (r other : Refusal) → Err other ≡ ok_or (cond has (Some i) None) r → (has ≡ false) × (other ≡ r)
+found_none true i r other e = cc
+found_none false i r other e = (refl, cc)
 
-  pub other_shown : (stamp stored : ℕ) → Some (record { stamp = stamp; value = value_in stored }) ≡ shown last (readings_for G m)
-      → (stored ≡ nat_abs m.value → ⊥) → repeats last G m ≡ false
-  other_shown stamp stored e n = rw (← e) (ne_eqb stored (nat_abs m.value) n)
+pub found_some : (has : Bool) (i point : ℕ) (r : Refusal) → Ok point ≡ ok_or (cond has (Some i) None) r → (has ≡ true) × (point ≡ i)
+found_some true i point r e = (refl, cc)
+found_some false i point r e = cc
+
+-- what is shown has the submission's value and so is repeated, or it is not repeated
+shown_repeated : (o : Option Reading) (stored stamp : ℕ) → Some stamp ≡ repeated o stored → (same_as o (value_in stored) ≡ true) × (stamp ≡ stamp_of o)
+shown_repeated None stored stamp e = cc
+shown_repeated (Some r) stored stamp e =
+    by_test (eqb r.value.magnitude stored) (λ t. (t, cc (rw t at e))) (λ t. cc (rw t at e))
+
+shown_other : (o : Option Reading) (stored : ℕ) → None ≡ repeated o stored → same_as o (value_in stored) ≡ false
+shown_other None stored e = refl
+shown_other (Some r) stored e = by_test (eqb r.value.magnitude stored) (λ t. cc (rw t at e)) (λ t. t)
 
 -- past all tests but the last a submission is a repeat, refused for lack of room, or a new entry
 module _ (last : ℕ) (G : Group) (clock : ℕ) (m : Measurement) (k : Suiting last G clock m) where
-  repeated : repeats last G m ≡ true → submission_verdict last G clock m ≡ Ok tt
+  repeats_accepted : repeats last G m ≡ true → submission_verdict last G clock m ≡ Ok tt
   unfolding submission_verdict
-  repeated e = grind (arith, common_steps, order)
+  repeats_accepted e = grind (arith, common_steps, order)
 
-  pub look_repeats : (stamp stored : ℕ) → Some (record { stamp = stamp; value = value_in stored }) ≡ shown last (readings_for G m)
-      → stored ≡ nat_abs m.value → Ok (Repeat stamp) ≡ with_value (submission_verdict last G clock m) (looked_of last G clock m)
-  look_repeats stamp stored e v =
-      let r : repeats last G m ≡ true = rw (← e) (eq-eqb stored (nat_abs m.value) v) in
-      rw (repeated r, ← e, eq-eqb stored (nat_abs m.value) v)
+  pub look_repeats : (place stored stamp : ℕ) → place ≡ place_for G m.code m.day m.quarter → stored ≡ nat_abs m.value
+      → Some stamp ≡ repeated (shown last (readings_at G.entries place)) stored
+      → Ok (Repeat stamp) ≡ result_and (submission_verdict last G clock m) (Ok (looked_of last G clock m))
+  look_repeats place stored stamp p v e =
+      let t = shown_repeated (shown last (readings_for G m)) (nat_abs m.value) stamp (rw (p, v) at e) in
+      rw (repeats_accepted t.0, t.0, t.1)
 
-  module _ (n : repeats last G m ≡ false) where
+  module _ (place stored : ℕ) (p : place ≡ place_for G m.code m.day m.quarter) (v : stored ≡ nat_abs m.value)
+      (e : None ≡ repeated (shown last (readings_at G.entries place)) stored) where
+    no_repeat : repeats last G m ≡ false
+    no_repeat = shown_other (shown last (readings_for G m)) (nat_abs m.value) (rw (p, v) at e)
+
     no_room : full G ≡ true → submission_verdict last G clock m ≡ Err JournalFull
     unfolding submission_verdict
-    no_room h = grind (arith, common_steps, order)
+    no_room h = let n = no_repeat in grind (arith, common_steps, order)
 
     has_room : full G ≡ false → submission_verdict last G clock m ≡ Ok tt
     unfolding submission_verdict
-    has_room h = grind (arith, common_steps, order)
+    has_room h = let n = no_repeat in grind (arith, common_steps, order)
 
-    pub look_full : full G ≡ true → Err JournalFull ≡ with_value (submission_verdict last G clock m) (looked_of last G clock m)
+    pub look_full : full G ≡ true → Err JournalFull ≡ result_and (submission_verdict last G clock m) (Ok (looked_of last G clock m))
     look_full h = rw (no_room h)
 
-    pub look_new : full G ≡ false → (stamp place stored : ℕ) → stamp ≡ next_stamp clock last
-        → place ≡ place_for G m.code m.day m.quarter → stored ≡ nat_abs m.value
-        → Ok (New stamp place stored) ≡ with_value (submission_verdict last G clock m) (looked_of last G clock m)
-    look_new h stamp place stored s p v = rw (has_room h, n, s, p, v)
+    pub look_new : full G ≡ false → (stamp : ℕ) → stamp ≡ next_stamp clock last
+        → Ok (New (record { stamp = stamp; place = place; stored = stored })) ≡ result_and (submission_verdict last G clock m) (Ok (looked_of last G clock m))
+    look_new h stamp s = rw (has_room h, no_repeat, s, p, v)
 
 -- what is looked up tells whether the submission is a repeat, and what it gives
 module _ (last : ℕ) (G : Group) (clock : ℕ) (m : Measurement) where
   pub repeat_told : (stamp : ℕ) → Repeat stamp ≡ looked_of last G clock m → (repeats last G m ≡ true) × (stamp ≡ stamp_of (shown last (readings_for G m)))
   repeat_told stamp e = by_test (repeats last G m) (λ t. (t, cc (rw t at e))) (λ t. cc (rw t at e))
 
-  pub new_told : (stamp place stored : ℕ) → New stamp place stored ≡ looked_of last G clock m
-      → (repeats last G m ≡ false) × (stamp ≡ next_stamp clock last) × (place ≡ place_for G m.code m.day m.quarter) × (stored ≡ stored_of (value_of m))
-  new_told stamp place stored e = by_test (repeats last G m) (λ t. cc (rw t at e)) (λ t. (t, cc (rw t at e), cc (rw t at e), cc (rw t at e)))
+  pub new_told : (e : Entry) → New e ≡ looked_of last G clock m → (repeats last G m ≡ false) × (e ≡ entry_of G (next_stamp clock last) m)
+  new_told e q = by_test (repeats last G m) (λ t. cc (rw t at q)) (λ t. (t, cc (rw t at q)))
 
 -- what is looked up in one group is looked up in an equal one
 pub look_same : {r : Result Looked Refusal} (last last' : ℕ) (G G' : Group) (clock : ℕ) (m : Measurement) → (G' ≡ G) × (last' ≡ last)
-    → r ≡ with_value (submission_verdict last' G' clock m) (looked_of last' G' clock m) → r ≡ with_value (submission_verdict last G clock m) (looked_of last G clock m)
+    → r ≡ result_and (submission_verdict last' G' clock m) (Ok (looked_of last' G' clock m)) → r ≡ result_and (submission_verdict last G clock m) (Ok (looked_of last G clock m))
 look_same last last' G G' clock m e h = rw (e.0, e.1) at h

@@ -3,7 +3,8 @@ use Rattle.std.specs.Prelude.{ℕ, List}
 use Rattle.values.specs.declared.Measurement.{Measurement}
 use Rattle.registration.specs.declared.Registration.{Registration}
 use Rattle.journal.specs.Order.{Reading}
-use Rattle.journal.specs.Entries.{Entry, place_of, readings_at}
+use Rattle.journal.specs.declared.Entry.{Entry}
+use Rattle.journal.specs.Entries.{place_of, readings_at}
 use Rattle.points.specs.Points.{codes_of, index_of}
 
 -- registration, kept stamp P, kept day K, the journal's entries, and how many numbers the journal has

@@ -1,18 +1,23 @@
 // A group as its registration, its numbers and a journal hold it: when it is damaged, and the tests of each call, in the order of its refusals.
 #![tactic(auto)]
 
-ghost use Rattle.std.specs.Prelude.{◌≡◌, ◌≤◌, ◌*◌, not, ◌&&◌, length, nat_abs, leb, eqb};
-ghost use Rattle.answers.specs.Numbers.{with_value};
+ghost use Rattle.std.specs.Prelude.{◌≡◌, ◌≤◌, ◌*◌, cond, not, ◌&&◌, length, nat_abs, leb, eqb};
+ghost use Rattle.std.specs.Result.{result_and};
 ghost use Rattle.calendar.specs.Dates.{last_day};
-ghost use Rattle.points.specs.Points.{sign_suits};
+ghost use Rattle.journal.specs.Stored.{entries_in};
+ghost use Rattle.points.specs.Points.{codes_of, index_of, has, sign_suits};
+ghost use Rattle.registration.specs.Rules.{points};
+ghost use Rattle.journal.specs.Damage.{Right};
+ghost use Rattle.journal.specs.Entries.{readings_at};
+ghost use Rattle.journal.specs.Readings.{shown};
 ghost use Rattle.values.specs.Values.{magnitude_most};
 ghost use Rattle.group.specs.Held.{held};
 ghost use Rattle.group.specs.Refusals.{damaged, full, earliest, submission_verdict, clear_verdict, evaluation_verdict};
 ghost use Rattle.group.specs.Stamps.{stamp_most};
-ghost use Rattle.group.specs.Working.{looked_of};
+ghost use Rattle.group.specs.Working.{looked_of, repeated};
 
 use answers::Refusal;
-use journal::Found;
+use journal::Entry;
 use lookup::Asked;
 use registration::Registration;
 use values::Measurement;
@@ -45,25 +50,36 @@ pub struct Group<'a> {
 #[derive(Clone, Copy)]
 pub enum Looked {
     Repeat(u64),
-    New { stamp: u64, place: u64, stored: u64 },
+    New(Entry),
 }
 
 impl<'a> Group<'a> {
+    // The entries of the journal, each as its three numbers.
+    fn entries(&self) -> &[[u64; 3]]
+        requires { 3 * self.now.numbers.entries ≤ length self.now.journal.now }
+        ensures { entries_in result.now ≡ (held self.now).entries }
+    {
+        journal::entries(self.journal, self.numbers.entries)
+    }
+
     // Whether registration, record or journal is damaged.
     #[tactic(auto, using(crate::proofs::Undamaged::few, journal::proofs::Stored::length_entries, lists::proofs::TableLaws::length_table), unfolding(crate::specs::Refusals::damaged))]
     pub fn damaged(&self) -> bool
         ensures { result ≡ damaged self.now.last (held self.now) }
     {
-        let Numbers { kept_stamp, kept_day, entries } = self.numbers;
-        registration_damage::damaged(*self.registration)
+        let Numbers {
+            kept_stamp,
+            kept_day,
+            entries,
+        } = self.numbers;
+        registration_damage::damaged(self.registration)
             || self.last < kept_stamp
             || STAMP_MOST < self.last
             || calendar::LAST_DAY < kept_day
             || self.journal.len() / journal::ENTRY < entries
             || !journal::right(
-                self.journal,
-                entries,
-                (self.registration.producers + self.registration.consumers) as u64,
+                self.entries(),
+                self.registration.points() as u64,
                 kept_day,
                 self.last,
             )
@@ -72,17 +88,18 @@ impl<'a> Group<'a> {
     // The tests of a submission, and what it comes to if it passes them.
     #[tactic(auto, using(answers::proofs::Refusals::order, crate::proofs::Looking::looking), unfolding(crate::specs::Refusals::submission_verdict))]
     pub fn look(&self, clock: u64, measurement: Measurement) -> Result<Looked, Refusal>
-        ensures { result ≡ with_value (submission_verdict self.now.last (held self.now) clock measurement) (looked_of self.now.last (held self.now) clock measurement) }
+        ensures { result ≡ result_and (submission_verdict self.now.last (held self.now) clock measurement) (Ok (looked_of self.now.last (held self.now) clock measurement)) }
     {
         if self.damaged() {
             return Err(Refusal::Damaged);
         }
-        let Measurement { code, day, quarter, value } = measurement;
-        let points = self.registration.producers + self.registration.consumers;
-        let point = points::find(&self.registration.codes, points, code);
-        if point >= points {
-            return Err(Refusal::CodeNotInGroup);
-        }
+        let Measurement {
+            code,
+            day,
+            quarter,
+            value,
+        } = measurement;
+        let point = find(self.registration, code).ok_or(Refusal::CodeNotInGroup)?;
         if !calendar::exists(day, quarter) {
             return Err(Refusal::NoSuchDay);
         }
@@ -97,20 +114,31 @@ impl<'a> Group<'a> {
         }
         let place = journal::place(point as u64, day, quarter);
         let magnitude = value.unsigned_abs();
-        if let Found::Shown(stamp, stored) = journal::shown(self.journal, self.numbers.entries, place, self.last) {
-            if stored == magnitude {
-                return Ok(Looked::Repeat(stamp));
-            }
+        if let Some(stamp) = self.repeated(place, magnitude) {
+            return Ok(Looked::Repeat(stamp));
         }
         if self.full() {
             return Err(Refusal::JournalFull);
         }
         let stamp = clock.max(self.last + 1);
-        Ok(Looked::New {
+        Ok(Looked::New(Entry {
             stamp,
             place,
             stored: magnitude,
-        })
+        }))
+    }
+
+    // The stamp of the reading that a place shows, where that has this value.
+    fn repeated(&self, place: u64, stored: u64) -> Option<u64>
+        requires { (3 * self.now.numbers.entries ≤ length self.now.journal.now) × Right (held self.now).entries }
+        ensures { result ≡ repeated (shown self.now.last (readings_at (held self.now).entries place)) stored }
+    {
+        let before = journal::shown(self.entries(), place, self.last)?;
+        if before.stored == stored {
+            Some(before.stamp)
+        } else {
+            None
+        }
     }
 
     // Whether a value suits a point, by its sign and its magnitude.
@@ -181,11 +209,19 @@ impl<'a> Group<'a> {
         if !self.keeps(asked.until) {
             return Err(Refusal::StampOutside);
         }
-        if lent.len() < evaluation::layout_of(*self.registration).size {
+        if lent.len() < evaluation::layout_of(self.registration).size {
             return Err(Refusal::TooShort);
         }
         Ok(())
     }
+}
+
+// The number of the point with a code, where the group has it.
+fn find(registration: &Registration, code: u64) -> Option<usize>
+    requires { points registration.now ≤ 64 }
+    ensures { result ≡ cond (has code (codes_of registration.now)) (Some (index_of code (codes_of registration.now))) None }
+{
+    points::find(&registration.codes[..registration.points()], code)
 }
 
 // The earliest day that can be evaluated: the four weeks before it are not cleared.

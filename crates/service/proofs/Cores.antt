@@ -18,7 +18,8 @@ use Rattle.evaluation.specs.Evaluation.{result_from}
 use Rattle.evaluation.specs.Working.{values_in}
 use Rattle.journal.specs.Readings.{shown, stamp_of}
 use Rattle.journal.specs.Damage.{Right}
-use Rattle.journal.specs.Entries.{Entry, keep}
+use Rattle.journal.specs.declared.Entry.{Entry}
+use Rattle.journal.specs.Entries.{keep}
 use Rattle.journal.specs.Stored.{entries, numbers, written}
 use Rattle.journal.proofs.Stored.{length_entries, written_same, put_append}
 use Rattle.journal_clear.specs.Cleared.{JournalCleared}
@@ -27,7 +28,8 @@ use Rattle.lookup.specs.declared.Asked.{Asked}
 use Rattle.group.specs.Group.{Group, readings_for}
 use Rattle.group.specs.Refusals.{repeats, submission_verdict, clear_verdict, evaluation_verdict}
 use Rattle.group.specs.Stamps.{next_stamp}
-use Rattle.service.specs.Calls.{entry_of, submitted, cleared, evaluated, step}
+use Rattle.group.specs.Working.{entry_of}
+use Rattle.service.specs.Calls.{submitted, cleared, evaluated, step}
 use Rattle.service.specs.Record.{group_of, state_of, with_state, emptied_of, call_on}
 use Rattle.service.specs.Promises.{Submits, Clears, Evaluates}
 use Rattle.group.proofs.Sound.{Sound}

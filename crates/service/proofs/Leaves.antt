@@ -12,7 +12,8 @@ use Rattle.group.specs.Group.{Group}
 use Rattle.service.specs.Call.{Call, Submission, Clear, Evaluation, After}
 use Rattle.group.specs.Refusals.{repeats, submission_verdict, clear_verdict, evaluation_verdict}
 use Rattle.group.specs.Stamps.{next_stamp}
-use Rattle.service.specs.Calls.{entry_of, submitted, cleared, evaluated, when_accepted, step}
+use Rattle.group.specs.Working.{entry_of}
+use Rattle.service.specs.Calls.{submitted, cleared, evaluated, when_accepted, step}
 use Rattle.service.specs.Laws.{lent_by}
 use Rattle.group.proofs.Admitted.{admitted, clearing, evaluating}
 use Rattle.service.proofs.Accepted.{submitted_accepted}

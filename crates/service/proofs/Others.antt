@@ -8,7 +8,8 @@ use lib.ListN.{length, get_or, length-append}
 use Rattle.std.specs.Prelude.{Ok}
 use Rattle.lists.proofs.Cases.{by_test}
 use Rattle.values.specs.declared.Measurement.{Measurement}
-use Rattle.journal.specs.Entries.{Entry, keep}
+use Rattle.journal.specs.declared.Entry.{Entry}
+use Rattle.journal.specs.Entries.{keep}
 use Rattle.journal.specs.Stored.{entries, written}
 use Rattle.journal.proofs.Kept.{length_keep}
 use Rattle.journal.proofs.Stored.{length_entries, front_stays, emptied_zero, later_stay}
@@ -17,7 +18,8 @@ use Rattle.group.specs.Group.{Group}
 use Rattle.group.specs.Refusals.{repeats, submission_verdict, clear_verdict}
 use Rattle.group.specs.Stamps.{next_stamp}
 use Rattle.service.specs.Call.{Submission, Clear, refused}
-use Rattle.service.specs.Calls.{entry_of, submitted, cleared, step}
+use Rattle.group.specs.Working.{entry_of}
+use Rattle.service.specs.Calls.{submitted, cleared, step}
 use Rattle.service.specs.Record.{group_of, emptied_of, call_on}
 use Rattle.service.specs.Laws.{SubmissionLeavesOthers, ClearLeavesLater}
 use Rattle.group.proofs.Admitted.{admitted}

@@ -16,7 +16,8 @@ use Rattle.values.specs.declared.Measurement.{Measurement}
 use Rattle.values.specs.Values.{magnitude_most}
 use Rattle.calendar.proofs.Laws.{exists_day, exists_quarter}
 use Rattle.journal.specs.Readings.{shown, has_stamp}
-use Rattle.journal.specs.Entries.{Entry, day_in, readings_at, kept, keep}
+use Rattle.journal.specs.declared.Entry.{Entry}
+use Rattle.journal.specs.Entries.{day_in, readings_at, kept, keep}
 use Rattle.journal.specs.Damage.{entry_right}
 use Rattle.journal.proofs.PlaceLaws.{point_in_place, day_in_place, quarter_in_place}
 use Rattle.journal.proofs.Kept.{length_keep}
@@ -26,7 +27,8 @@ use Rattle.group.specs.Group.{Group, roll_of}
 use Rattle.service.specs.Call.{Call, Submission, Clear, Evaluation, After}
 use Rattle.group.specs.Refusals.{repeats, evaluation_verdict}
 use Rattle.group.specs.Stamps.{next_stamp}
-use Rattle.service.specs.Calls.{with_entry, entry_of, submitted, cleared_group, cleared, evaluated, when_accepted, step}
+use Rattle.group.specs.Working.{entry_of}
+use Rattle.service.specs.Calls.{with_entry, submitted, cleared_group, cleared, evaluated, when_accepted, step}
 use Rattle.service.specs.Laws.{StaysUndamaged}
 use Rattle.group.proofs.Sound.{Sound, undamaged, undamaged_sound}
 use Rattle.group.proofs.Admitted.{Admitted, admitted, Clearing, clearing}

@@ -4,12 +4,13 @@ use Rattle.answers.specs.Numbers.{Verdict}
 use Rattle.std.specs.Prelude.{Ok, Err}
 use Rattle.lists.specs.Place.{placed}
 use Rattle.evaluation.specs.Layout.{result_of}
-use Rattle.journal.specs.Value.{value_of, stored_of}
 use Rattle.journal.specs.Readings.{shown, stamp_of}
-use Rattle.journal.specs.Entries.{Entry, keep}
+use Rattle.journal.specs.declared.Entry.{Entry}
+use Rattle.journal.specs.Entries.{keep}
 use Rattle.evaluation.specs.Evaluation.{evaluation_of}
 use Rattle.values.specs.declared.Measurement.{Measurement}
-use Rattle.group.specs.Group.{Group, place_for, readings_of, readings_for}
+use Rattle.group.specs.Group.{Group, readings_of, readings_for}
+use Rattle.group.specs.Working.{entry_of}
 use Rattle.service.specs.Call.{Call, Submission, Clear, Evaluation, Seen, After}
 use Rattle.group.specs.Refusals.{repeats, submission_verdict, clear_verdict, evaluation_verdict}
 use Rattle.group.specs.Stamps.{next_stamp}
@@ -28,10 +29,6 @@ with_entry G e =
       entries = G.entries ++ (e ∷ []);
       room = G.room;
     }
-
--- the entry that a submission appends
-abbrev pub entry_of : Group → (stamp : ℕ) → Measurement → Entry
-entry_of G stamp m = record { stamp = stamp; place = place_for G m.code m.day m.quarter; stored = stored_of (value_of m) }
 
 -- a repeat stores nothing and returns the stamp of the reading shown; otherwise an entry is appended, whose stamp becomes the last stamp
 unfoldable pub submitted : (last : ℕ) → Group → (clock : ℕ) → Measurement → After

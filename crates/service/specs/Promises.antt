@@ -1,7 +1,7 @@
 -- What the code's calls promise, for any record and any journal: answer, record, journal and result list are those of the definitions. Assumes nothing.
-use Rattle.std.specs.Prelude.{ℕ, ◌≡◌, List, Result}
+use Rattle.std.specs.Prelude.{ℕ, ◌≡◌, List, Result, Ok}
 use Rattle.answers.specs.declared.Refusal.{Refusal}
-use Rattle.answers.specs.Numbers.{with_value}
+use Rattle.std.specs.Result.{result_and}
 use Rattle.registration.specs.declared.Registration.{Registration}
 use Rattle.registration.specs.Damage.{soundness}
 use Rattle.values.specs.declared.Measurement.{Measurement}
@@ -12,11 +12,11 @@ use Rattle.service.specs.Record.{fresh_service, call_on}
 
 -- the answer of `fresh`: refused by 15 where the registration is damaged, otherwise the record made from it
 abbrev pub fresh_of : Registration → Result Service Refusal
-fresh_of r = with_value (soundness r) (fresh_service r)
+fresh_of r = result_and (soundness r) (Ok (fresh_service r))
 
 -- the answer of a call: its refusal, or the number that it returns: a stamp, a dropped count or a round count
 abbrev pub answered : Seen → Result ℕ Refusal
-answered seen = with_value seen.verdict seen.number
+answered seen = result_and seen.verdict (Ok seen.number)
 
 -- a submission leaves record and journal as the definition says, and answers so
 pub record Submits (s : Service) (j : List ℕ) (clock : ℕ) (m : Measurement) (s' : Service) (answer : Result ℕ Refusal) (j' : List ℕ) : Type 0 where

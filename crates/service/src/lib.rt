@@ -56,7 +56,7 @@ impl Service {
     pub fn fresh(registration: Registration) -> Result<Service, Refusal>
         ensures { result ≡ fresh_of registration }
     {
-        registration_damage::soundness(registration)?;
+        registration_damage::soundness(&registration)?;
         Ok(Service {
             registration,
             ..Service::empty()
@@ -86,11 +86,11 @@ impl Service {
     {
         match self.group(journal).look(clock, measurement)? {
             Looked::Repeat(stamp) => Ok(stamp),
-            Looked::New { stamp, place, stored } => {
-                journal::put(journal, self.state.numbers.entries, stamp, place, stored);
-                self.state.last = stamp;
+            Looked::New(entry) => {
+                journal::put(journal, self.state.numbers.entries, entry);
+                self.state.last = entry.stamp;
                 self.state.numbers.entries += 1;
-                Ok(stamp)
+                Ok(entry.stamp)
             }
         }
     }
@@ -100,7 +100,7 @@ impl Service {
         ensures { Clears self.old journal.old day stamp self.new result journal.new }
     {
         self.group(journal).clear_verdict(day, stamp)?;
-        let points = self.registration.producers + self.registration.consumers;
+        let points = self.registration.points();
         let count = self.state.numbers.entries;
         let entries = journal_clear::keep(journal, count, points as u64, day, stamp);
         self.state.numbers = Numbers {
@@ -117,15 +117,8 @@ impl Service {
         ensures { Evaluates self.now journal.now asked list.old result list.new }
     {
         self.group(journal).evaluation_verdict(asked, list)?;
-        let count = self.state.numbers.entries;
-        Ok(evaluation::evaluate(
-            self.registration,
-            journal,
-            count,
-            asked.day,
-            asked.quarter,
-            asked.until,
-            list,
-        ))
+        let entries = journal::entries(journal, self.state.numbers.entries);
+        let rounds = evaluation::evaluate(&self.registration, entries, asked, list);
+        Ok(rounds)
     }
 }

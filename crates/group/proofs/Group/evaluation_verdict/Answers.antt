@@ -1,5 +1,5 @@
 -- `group::Group::evaluation_verdict` meets its contract. Assumes nothing.
-use Rattle.std.proofs.Common.{arith, ◌≡◌, ◌<◌, ◌≤◌, sym, ◌∙◌, false, subst, ℕ, length}
+use Rattle.std.proofs.Common.{arith, ◌<◌, ◌≤◌, length}
 use Rattle.std.proofs.lemmas.Grind.{common_steps}
 use Rattle.answers.proofs.Refusals.{order}
 use Rattle.group.specs.Refusals.{evaluation_verdict, earliest}

@@ -2,7 +2,7 @@
 use Rattle.std.proofs.Common.{arith, ◌≡◌, refl, sym, ap, ◌∙◌, ℕ, List, Ok, Err, Result}
 use Rattle.std.proofs.lemmas.Result.{err_from_is_err_and}
 use Rattle.answers.specs.declared.Refusal.{Refusal}
-use Rattle.answers.specs.Numbers.{with_value}
+use Rattle.std.specs.Result.{result_and}
 use Rattle.answers.proofs.Values.{refused_told, given_told}
 use Rattle.group.specs.declared.Looked.{Looked}
 use Rattle.group.specs.Refusals.{submission_verdict}
