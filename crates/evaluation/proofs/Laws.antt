@@ -23,7 +23,7 @@ use Rattle.allocation.proofs.Pairs.{of_consumer_same, of_producer_same}
 use Rattle.allocation.proofs.Shareable.{few_points, count_most, count_within}
 use Rattle.registration.specs.Pairs.{pairs_before, pairs_in}
 use Rattle.lookup.specs.declared.PointValue.{PointValue}
-use Rattle.lookup.specs.Substitutes.{looked_up}
+use Rattle.lookup.specs.Substitutes.{number_of_origin, looked_up}
 use Rattle.evaluation.specs.Evaluation.{result_from, evaluation_of}
 use Rattle.evaluation.specs.Layout.{Shares, Withdrawals, Supplies, Origins, begin_of, result_of, HasLengths}
 use Rattle.evaluation.specs.Laws.{PartLengths, ResultSize, PartsStand, pair_number, ResultKeepsSupplies, ResultKeepsWithdrawals, ResultHasOrigins, ResultWithinMost}
@@ -35,8 +35,8 @@ magnitudes_of value point = (value point).magnitude
 
 module _ (r : Registration) (value : ℕ → PointValue) where
   -- how many origins there are
-  origins_length : length (table (λ point. (value point).origin) (points r)) ≡ r.producers + r.consumers
-  origins_length = length_table (λ point. (value point).origin) (points r)
+  origins_length : length (table (λ point. number_of_origin (value point).origin) (points r)) ≡ r.producers + r.consumers
+  origins_length = length_table (λ point. number_of_origin (value point).origin) (points r)
 
   -- each part has the length of the layout
   pub has_lengths : HasLengths r (result_from r value)
@@ -98,7 +98,7 @@ unfolding result_from
 result_has_origins r value lent point h =
     let place : pairs_in r + r.consumers + r.producers + point ≡ begin_of r Origins + point = omega arith in
     let own = number_stands r (result_from r value) (has_lengths r value) lent Origins point (omega arith) in
-    rw place (omega (arith, own, table_at (λ point. (value point).origin) (points r) point h))
+    rw place (omega (arith, own, table_at (λ point. number_of_origin (value point).origin) (points r) point h))
 
 -- with 5 producers or more there are at most 59 consumers, each with at most 5 pairs; with fewer a consumer has at most 4
 pub pairs_most : (r : Registration) → Shareable r → pairs_in r ≤ 295

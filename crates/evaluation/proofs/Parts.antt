@@ -1,43 +1,81 @@
--- The parts of a result: how many numbers they have, where they stand in a list that the result is put into, and that parts put in turn,
--- each at its place, are the result. Assumes nothing.
-use Prim.Native.Nat.{ℕ, ◌+◌, ◌≤◌, ◌<◌}
+-- The parts of a result: what the code's slices have of them, how many numbers they have, and where they stand in a list that the result is put into.
+-- Assumes nothing.
+use Prim.Native.Nat.{ℕ, zero, suc, ◌+◌, ◌-◌, ◌*◌, ◌≤◌, ◌<◌}
 use mathlib.Core.Path.{◌≡◌, refl, sym, ap, ◌∙◌}
-use mathlib.Core.List.{List, [], ◌++◌, append_assoc}
+use mathlib.Core.List.{List, [], ◌∷◌, ◌++◌, append_assoc}
 use native.Mathlib.Omega.{arith}
-use lib.ListN.{length, get_or, take, drop, length-append}
-use lib.Seq.{take_at, drop_at, get_or-drop, get_or-take}
-use Rattle.lists.specs.Place.{placed, Put}
-use Rattle.lists.specs.Tables.{table}
+use native.Mathlib.Numerals.{add-one}
+use lib.ListN.{length, get_or, take, drop, length-append, length-drop}
+use lib.Seq.{take_at, drop_at, take-suc, get_or-drop, get_or-take}
+use lib.Seq.{take-take}
+use Rattle.std.proofs.lemmas.List.{drop-take}
+use Rattle.std.specs.Prelude.{sum}
+use Rattle.std.proofs.lemmas.List.Sums.{sum_by_more, sum_by-cons}
+use Rattle.lists.specs.Below.{sum_below}
+use Rattle.lists.specs.Place.{placed}
+use Rattle.lists.specs.Tables.{joined, table}
 use Rattle.lists.proofs.Below.{sum_next}
+use Rattle.lists.proofs.Chains.{table_take}
 use Rattle.lists.proofs.Sums.{sum_more}
-use Rattle.lists.proofs.Pieces.{put_on}
-use Rattle.lists.proofs.PlaceLaws.{put_length}
-use Rattle.lists.proofs.TableLaws.{table_same, length_table}
+use Rattle.lists.proofs.TableLaws.{table_same}
+use Rattle.lists.proofs.Those.{map_append}
 use Rattle.registration.specs.declared.Registration.{Registration}
-use Rattle.registration.specs.Rules.{points, count_at, place_at}
-use Rattle.allocation.specs.declared.Allocated.{Allocated}
-use Rattle.allocation.proofs.Pairs.{pairs_length}
+use Rattle.registration.specs.Rules.{count_at}
 use Rattle.registration.specs.Pairs.{pairs_before, pairs_in}
+use Rattle.lookup.specs.declared.PointValue.{PointValue}
+use Rattle.lookup.specs.Substitutes.{number_of_origin}
 use Rattle.evaluation.specs.Evaluation.{Result}
 use Rattle.evaluation.specs.Layout.{Part, Shares, Withdrawals, Supplies, Origins, length_of, begin_of, size_of, part_in, part_of, result_of, HasLengths}
-use Rattle.evaluation.specs.Working.{result_in}
+use Rattle.evaluation.specs.Working.{origins_of}
 
 -- the shares of a consumer are among those of all consumers
 pub shares_there : (r : Registration) (consumer : ℕ) → consumer < r.consumers → pairs_before r consumer + count_at r consumer ≤ pairs_in r
 shares_there r consumer h =
     omega (arith, sum_next (count_at r) consumer, sum_more (count_at r) (consumer + 1) r.consumers (omega arith))
 
-module _ (r : Registration) (allocated : Allocated) (origins : List ℕ) where
-  -- the parts that the working arrays hold
-  pub lengths_in : HasLengths r (result_in r allocated origins)
-  lengths_in Shares = omega (arith, pairs_length r (place_at allocated.shares))
-  lengths_in Withdrawals = omega (arith, length_table (λ point. get_or allocated.left (r.producers + point) 0) r.consumers)
-  lengths_in Supplies = omega (arith, length_table (λ point. get_or allocated.left point 0) r.producers)
-  lengths_in Origins = omega (arith, length_table (λ point. get_or origins point 0) (points r))
+-- the numbers of a slice
+pub slice_table : (numbers : List ℕ) (at n : ℕ) → at + n ≤ length numbers → take (at + n - at) (drop at numbers) ≡ table (λ i. get_or numbers (at + i) 0) n
+slice_table numbers at n h =
+    let some : at + n - at ≡ n = omega arith in
+    rw some (sym (table_same _ _ n (λ i l. sym (get_or-drop at numbers i 0)) ∙ table_take (drop at numbers) n (rw length-drop (omega arith))))
 
--- the numbers at the same places of a list
-pub same_places : (numbers : List ℕ) (f g : ℕ → ℕ) (n : ℕ) → ((i : ℕ) → f i ≡ g i) → table (λ i. get_or numbers (f i) 0) n ≡ table (λ i. get_or numbers (g i) 0) n
-same_places numbers f g n same = table_same _ _ n (λ i h. rw (same i))
+-- the two parts of the first numbers
+pub front_table : (numbers : List ℕ) (at n : ℕ) → at + n ≤ length numbers → take at (take (at + n) numbers) ≡ table (λ i. get_or numbers i 0) at
+front_table numbers at n h = take-take at (at + n) numbers (omega arith) ∙ sym (table_take numbers at (omega arith))
+
+pub back_table : (numbers : List ℕ) (at n : ℕ) → at + n ≤ length numbers → drop at (take (at + n) numbers) ≡ table (λ i. get_or numbers (at + i) 0) n
+back_table numbers at n h =
+    let some : at + n - at ≡ n = omega arith in
+    drop-take at n numbers ∙ rw some at (slice_table numbers at n h)
+
+-- the sum of the first numbers of a list
+pub sum_take : (numbers : List ℕ) (n : ℕ) → n ≤ length numbers → sum (take n numbers) ≡ sum_below (λ i. get_or numbers i 0) n
+unfolding sum_below
+sum_take numbers zero h = refl
+sum_take numbers (suc n) h =
+    let more : sum (take (n + 1) numbers) ≡ sum (take n numbers) + get_or numbers n 0 = sum_by_more (λ x. x) numbers n 0 h in
+    rw (← add-one n, more, sum_take numbers n (omega arith))
+
+-- the sum of bytes
+pub sum_bytes : (numbers : List ℕ) → ((i : ℕ) → get_or numbers i 0 < 256) → sum numbers ≤ 255 * length numbers
+sum_bytes [] h = omega arith
+sum_bytes (x ∷ xs) h = omega (arith, sum_by-cons (λ x. x) x xs, h 0, sum_bytes xs (λ i. h (suc i)))
+
+-- one origin more
+pub origins_more : (values : List PointValue) (i : ℕ) (d : PointValue) → i < length values
+    → origins_of (take (i + 1) values) ≡ origins_of (take i values) ++ (number_of_origin (get_or values i d).origin ∷ [])
+origins_more values i d h =
+    rw (add-one i, take-suc values i d h) (map_append (λ value. number_of_origin value.origin) (take i values) (get_or values i d ∷ []))
+
+-- the origins of values by point
+pub origins_table : (values : List PointValue) (d : PointValue) (n : ℕ) → n ≤ length values
+    → origins_of (take n values) ≡ table (λ point. number_of_origin (get_or values point d).origin) n
+unfolding joined
+origins_table values d zero h = refl
+origins_table values d (suc n) h =
+    rw (take-suc values n d h)
+    (map_append (λ value. number_of_origin value.origin) (take n values) (get_or values n d ∷ [])
+    ∙ rw (origins_table values d n (omega arith)))
 
 -- the middle one of three lists put together
 part_of_lem : (first second third : List ℕ) (at count : ℕ) → length first ≡ at → length second ≡ count → take count (drop at (first ++ (second ++ third))) ≡ second
@@ -82,25 +120,3 @@ module _ (r : Registration) (result : Result) (lengths : HasLengths r result) wh
     number_stands part i h =
         let numbers = placed 0 (result_of result) lent in
         sym (get_or-drop (begin_of r part) numbers i 0) ∙ sym (get_or-take _ (drop (begin_of r part) numbers) i 0 h) ∙ ap (λ (list : List ℕ). get_or list i 0) (part_stands part)
-
-  -- parts put in turn
-  pub parts_put : (before : List ℕ) {withdrawals supplies origins next then end : ℕ} {shares first second third remaining left after : List ℕ}
-      → size_of r ≤ length before
-      → withdrawals ≡ begin_of r Withdrawals → supplies ≡ begin_of r Supplies → origins ≡ begin_of r Origins
-      → shares ≡ placed 0 (part_of result Shares) before
-      → first ≡ part_of result Withdrawals → Put withdrawals first shares remaining next
-      → second ≡ part_of result Supplies → Put supplies second remaining left then
-      → third ≡ part_of result Origins → Put origins third left after end
-      → after ≡ placed 0 (result_of result) before
-  parts_put before {withdrawals} {supplies} {origins} {next} {then} {end} {shares} {remaining = remaining} room w s o e f q₀ g t₀ h u₀ =
-      let q = rw f at q₀ in
-      let t = rw g at t₀ in
-      let u = rw h at u₀ in
-      let p : Put 0 (part_of result Shares) before shares withdrawals = record { list = e; end = omega (arith, lengths Shares) } in
-      let same : length shares ≡ length before = put_length (omega (arith, lengths Shares)) p in
-      let also : length remaining ≡ length shares = put_length (omega (arith, lengths Withdrawals)) q in
-      let second_at : supplies ≡ next = omega (arith, q.end, lengths Withdrawals) in
-      let third_at : origins ≡ then = omega (arith, t.end, lengths Supplies) in
-      (put_on (omega arith) p
-      (put_on (omega (arith, q.end, lengths Withdrawals)) q
-      (put_on (omega (arith, t.end, lengths Supplies)) (rw second_at at t) (rw third_at at u)))).list

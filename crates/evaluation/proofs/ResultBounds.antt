@@ -17,6 +17,7 @@ use Rattle.allocation.specs.Input.{Shareable, Magnitudes}
 use Rattle.allocation.specs.Rounds.{received}
 use Rattle.allocation.specs.Result.{start_of, rounds_for, allocation_of, pair_share}
 use Rattle.lookup.specs.declared.PointValue.{PointValue}
+use Rattle.lookup.specs.Substitutes.{number_of_origin}
 use Rattle.evaluation.specs.Evaluation.{result_from}
 use Rattle.allocation.proofs.Laws.{pair_received, allocation_keeps_supplies, allocation_keeps_withdrawals, allocation_lengths}
 use Rattle.evaluation.specs.Layout.{Part, Shares, Withdrawals, Supplies, Origins, length_of, begin_of, part_of, result_of}
@@ -95,7 +96,7 @@ module _ (r : Registration) (magnitude : ℕ → ℕ) (s : Shareable r) (m : Mag
 
 -- the numbers of a result, in the list that it is put into
 pub result_within : (r : Registration) (value : ℕ → PointValue) → Shareable r → Magnitudes r (λ point. (value point).magnitude)
-    → ((point : ℕ) → point < points r → (value point).origin ≤ 6) → (lent : List ℕ) → ResultWithin r (placed 0 (result_of (result_from r value)) lent)
+    → ((point : ℕ) → point < points r → number_of_origin (value point).origin ≤ 6) → (lent : List ℕ) → ResultWithin r (placed 0 (result_of (result_from r value)) lent)
 unfolding result_from
 result_within r value s m o lent part i h =
     rw (number_stands r (result_from r value) (has_lengths r value) lent part i h) (within part i h)
@@ -106,4 +107,4 @@ result_within r value s m o lent part i h =
     within Supplies i h = supplies_within r (λ point. (value point).magnitude) s m i
     within Origins i h =
         let point : i < points r = omega arith in
-        rw (table_at (λ point. (value point).origin) (points r) i point) (o i point)
+        rw (table_at (λ point. number_of_origin (value point).origin) (points r) i point) (o i point)

@@ -7,6 +7,7 @@ use Rattle.registration.specs.Damage.{is_damaged}
 use Rattle.registration.specs.Pairs.{of_consumer, of_producer, pairs_before, pairs_in}
 use Rattle.allocation.specs.Input.{Shareable}
 use Rattle.lookup.specs.declared.PointValue.{PointValue}
+use Rattle.lookup.specs.Substitutes.{number_of_origin}
 use Rattle.evaluation.specs.Evaluation.{Result, result_from}
 use Rattle.evaluation.specs.Layout.{Part, Shares, Withdrawals, Supplies, Origins, size_of, result_most, part_in, part_of, result_of, HasLengths}
 
@@ -61,11 +62,11 @@ ResultKeepsWithdrawals =
     → let numbers = placed 0 (result_of (result_from r value)) lent in
     of_consumer r (pair_number r numbers) consumer + consumer_number r numbers consumer ≡ (value (r.producers + consumer)).magnitude
 
--- and each point's origin there is that of its value
+-- and each point's number of an origin there is that of its value's
 abbrev pub ResultHasOrigins : Type 0
 ResultHasOrigins =
     (r : Registration) (value : ℕ → PointValue) (lent : List ℕ) (point : ℕ) → point < points r
-    → origin_number r (placed 0 (result_of (result_from r value)) lent) point ≡ (value point).origin
+    → origin_number r (placed 0 (result_of (result_from r value)) lent) point ≡ number_of_origin (value point).origin
 
 -- the result of an undamaged registration has no more numbers than the most
 abbrev pub ResultWithinMost : Type 0

@@ -2,21 +2,25 @@
 // into a result list.
 #![tactic(auto)]
 
-ghost use Rattle.std.specs.Prelude.{◌≡◌, true, ◌*◌, ◌≤◌, length};
+ghost use Rattle.std.specs.Prelude.{◌≡◌, true, ◌+◌, ◌*◌, ◌≤◌, ℕ, ◌<◌, length, get_or, sum};
 ghost use Rattle.lists.specs.Place.{placed};
+ghost use Rattle.lists.specs.Pages.{Added};
 ghost use Rattle.calendar.specs.Quarters.{quarter_exists};
 ghost use Rattle.registration.specs.Rules.{points, place_at};
 ghost use Rattle.registration.specs.Pairs.{pairs_in};
-ghost use Rattle.journal.specs.Stored.{entries};
+ghost use Rattle.journal.specs.Stored.{entries_in};
 ghost use Rattle.journal.specs.Damage.{Right};
 ghost use Rattle.allocation.specs.Input.{Shareable};
 ghost use Rattle.allocation.specs.Result.{pairs_of};
+ghost use Rattle.lookup.specs.Substitutes.{number_of_origin};
+ghost use Rattle.lookup.specs.Working.{value_of_point};
 ghost use Rattle.evaluation.specs.Evaluation.{result_from};
 ghost use Rattle.evaluation.specs.Layout.{size_of, result_of, LaidOut, ResultPut};
-ghost use Rattle.evaluation.specs.Working.{values_in, result_in};
+ghost use Rattle.evaluation.specs.Working.{values_in, origins_of, result_in};
 
 use allocation::Allocated;
-use lookup::{Asked, PointValues};
+use lists::Page;
+use lookup::{Asked, PointValue};
 use registration::Registration;
 
 // The most numbers that the result of an undamaged registration has.
@@ -31,32 +35,24 @@ pub struct Layout {
     pub size: usize,
 }
 
-// How many pairs a group has: each consumer with each producer that it names.
-fn pairs(registration: Registration) -> usize
-    requires { points registration ≤ 64 }
-    ensures { (result ≡ pairs_in registration) × (result ≤ 16320) }
+// How many pairs consumers have, each with as many producers as it names.
+fn pairs(counts: &[u8]) -> usize
+    requires { length counts.now ≤ 64 }
+    ensures { (result ≡ sum counts.now) × (result ≤ 255 * length counts.now) }
 {
-    let counts = registration.counts;
-    let consumers = registration.consumers;
-    let mut pairs = 0;
-    let mut consumer = 0;
-    while consumer < consumers {
-        pairs += counts[consumer] as usize;
-        consumer += 1;
-    }
-    pairs
+    counts.iter().map(|count| usize::from(*count)).sum()
 }
 
 // The layout of a group's results.
-pub fn layout_of(registration: Registration) -> Layout
-    requires { points registration ≤ 64 }
-    ensures { LaidOut registration result }
+pub fn layout_of(registration: &Registration) -> Layout
+    requires { points registration.now ≤ 64 }
+    ensures { LaidOut registration.now result }
 {
-    let points = registration.producers + registration.consumers;
-    let withdrawals = pairs(registration);
-    let supplies = withdrawals + registration.consumers;
+    let consumers = registration.consumers;
+    let withdrawals = pairs(&registration.counts[..consumers]);
+    let supplies = withdrawals + consumers;
     let origins = supplies + registration.producers;
-    let size = origins + points;
+    let size = origins + registration.points();
     Layout {
         withdrawals,
         supplies,
@@ -65,63 +61,70 @@ pub fn layout_of(registration: Registration) -> Layout
     }
 }
 
-// Puts the pairs' shares at the front of a result list, consumers in order and priorities within.
-fn put_shares(out: &mut [u64], registration: Registration, shares: &[u64; 320])
-    requires { Shareable registration × (pairs_in registration ≤ length out.old) }
-    ensures { out.new ≡ placed 0 (pairs_of registration (place_at shares.now)) out.old }
+// Puts the pairs' shares, consumers in order and priorities within.
+fn put_shares(page: &mut Page<u64>, registration: &Registration, shares: &[u64; 320])
+    requires { Shareable registration.now × (page.old.end + pairs_in registration.now ≤ length page.old.space.now) }
+    ensures { Added (pairs_of registration.now (place_at shares.now)) page.old page.new }
 {
-    let counts = registration.counts;
-    let consumers = registration.consumers;
-    let mut at = 0;
-    let mut consumer = 0;
-    while consumer < consumers {
-        let count = counts[consumer] as usize;
-        at = lists::put_part(out, at, shares, 5 * consumer, count);
-        consumer += 1;
+    for consumer in 0..registration.consumers {
+        let first = Registration::SOURCES * consumer;
+        let end = first + usize::from(registration.counts[consumer]);
+        page.put(&shares[first..end]);
     }
 }
 
-// Puts each part of a result at its place in a result list, whose later numbers stay.
-fn put_parts(out: &mut [u64], registration: Registration, allocated: Allocated, values: PointValues)
-    requires { Shareable registration × (size_of registration ≤ length out.old) }
-    ensures { out.new ≡ placed 0 (result_of (result_in registration allocated values.origins)) out.old }
+// Puts the number of each value's origin.
+fn put_origins(page: &mut Page<u64>, values: &[PointValue])
+    requires { page.old.end + length values.now ≤ length page.old.space.now }
+    ensures { Added (origins_of values.now) page.old page.new }
 {
-    let producers = registration.producers;
-    let consumers = registration.consumers;
-    let points = producers + consumers;
-    let shares = allocated.shares;
-    let left = allocated.left;
-    let origins = values.origins;
-    let layout = layout_of(registration);
-    put_shares(out, registration, &shares);
-    lists::put_part(out, layout.withdrawals, &left, producers, consumers);
-    lists::put_part(out, layout.supplies, &left, 0, producers);
-    lists::put_part(out, layout.origins, &origins, 0, points);
+    for value in values {
+        page.put(&[u64::from(value.origin)]);
+    }
+}
+
+// Puts the parts of a result at the front of a result list, one after the other; later numbers stay.
+fn put_parts(
+    list: &mut [u64],
+    registration: &Registration,
+    allocated: &Allocated,
+    values: &[PointValue],
+)
+    requires { Shareable registration.now × (length values.now ≡ points registration.now) × (size_of registration.now ≤ length list.old) }
+    ensures { list.new ≡ placed 0 (result_of (result_in registration.now allocated.now (origins_of values.now))) list.old }
+{
+    let points = registration.points();
+    let (supplies, withdrawals) = allocated.left[..points].split_at(registration.producers);
+    let mut page = Page {
+        space: list,
+        end: 0,
+    };
+    put_shares(&mut page, registration, &allocated.shares);
+    page.put(withdrawals);
+    page.put(supplies);
+    put_origins(&mut page, values);
+}
+
+// The magnitudes of the points' values.
+fn magnitudes(values: [PointValue; 64]) -> [u64; 64]
+    ensures { (point : ℕ) → point < 64 → get_or result point 0 ≡ (value_of_point values point).magnitude }
+{
+    values.map(|value| value.magnitude)
 }
 
 // The result of a quarter hour as of a stamp, put into the result list, whose later numbers stay. Returns the round count.
 pub fn evaluate(
-    registration: Registration,
-    journal: &[u64],
-    count: usize,
-    day: u64,
-    quarter: u64,
-    until: u64,
+    registration: &Registration,
+    entries: &[[u64; 3]],
+    asked: Asked,
     list: &mut [u64],
 ) -> usize
-    requires { Shareable registration × (quarter_exists day quarter ≡ true) × (3 * count ≤ length journal.now) × Right (entries count journal.now) × (size_of registration ≤ length list.old) }
-    ensures { ResultPut (result_from registration (values_in registration (entries count journal.now) day quarter until)) list.old list.new result }
+    requires { Shareable registration.now × (quarter_exists asked.day asked.quarter ≡ true) × Right (entries_in entries.now) × (size_of registration.now ≤ length list.old) }
+    ensures { ResultPut (result_from registration.now (values_in registration.now (entries_in entries.now) asked.day asked.quarter asked.until)) list.old list.new result }
 {
-    let asked = Asked {
-        day,
-        quarter,
-        until,
-    };
-    let statuses = registration.statuses;
-    let points = registration.producers + registration.consumers;
-    let values = lookup::values(journal, count, asked, statuses, points);
-    let magnitudes = values.magnitudes;
-    let allocated = allocation::allocate(registration, magnitudes);
-    put_parts(list, registration, allocated, values);
+    let points = registration.points();
+    let values = lookup::values(entries, asked, &registration.statuses[..points]);
+    let allocated = allocation::allocate(registration, &magnitudes(values));
+    put_parts(list, registration, &allocated, &values[..points]);
     allocated.rounds
 }

@@ -1,59 +1,53 @@
--- `evaluation::put_parts` meets its contract: the parts are put in turn, each at its place. Assumes nothing.
-use borrow.Author.Rules.{rules}
-use native.Mathlib.Omega.{arith}
-use mathlib.Core.Path.{◌≡◌, sym}
-use lib.ListN.{length}
+-- `evaluation::put_parts` meets its contract: the parts are put in turn. Assumes nothing.
+use Rattle.std.proofs.Common.{◌≡◌, ◌+◌, length, get_or, rules, arith, ◌∙◌, length-take-le}
+use Rattle.lists.specs.Tables.{table}
+use Rattle.lists.proofs.Adding.{added_then, lent_put}
+use Rattle.registration.specs.Rules.{place_at}
+use Rattle.allocation.proofs.Pairs.{pairs_length}
 use Rattle.allocation.proofs.Shareable.{few_points}
-use Rattle.evaluation.specs.Working.{result_in}
-use Rattle.evaluation.proofs.Parts.{same_places, lengths_in, parts_put}
+use Rattle.evaluation.proofs.Parts.{front_table, back_table}
 use Rattle.evaluation.proofs.put_parts.Goals as goal
-use Rattle.evaluation.proofs.put_parts.Goals.{Start}
 
-left_size : (c : Start) → length c.args.allocated.left ≡ 64
-left_size c = search rules
+pub put-requires : goal.put-requires
+put-requires c =
+    let r = c.args.registration.now in
+    let left = c.args.allocated.now.left in
+    let size : length left ≡ 64 = search rules in
+    let few = few_points c.requires.0 in
+    let points = length-take-le c.points-points.result left (omega (arith, c.points-points.ensures)) in
+    let shares = pairs_length r (place_at c.args.allocated.now.shares) in
+    omega (arith, c.requires.1, c.requires.2, c.points-points.ensures, c.split_at.ensures.front_len, c.split_at.ensures.back_len, c.put_shares.ensures.put.end, c.put_shares.ensures.same_length)
 
-origins_size : (c : Start) → length c.args.values.origins ≡ 64
-origins_size c = search rules
+pub put-requires-2 : goal.put-requires-2
+put-requires-2 c =
+    let r = c.args.registration.now in
+    let left = c.args.allocated.now.left in
+    let size : length left ≡ 64 = search rules in
+    let few = few_points c.requires.0 in
+    let points = length-take-le c.points-points.result left (omega (arith, c.points-points.ensures)) in
+    let shares = pairs_length r (place_at c.args.allocated.now.shares) in
+    omega (arith, c.requires.1, c.requires.2, c.points-points.ensures, c.split_at.ensures.front_len, c.split_at.ensures.back_len, c.put_shares.ensures.put.end, c.put_shares.ensures.same_length, c.put.ensures.put.end, c.put.ensures.same_length)
 
-pub overflow_add-points : goal.overflow_add-points
-overflow_add-points c = omega (arith, few_points c.requires.0)
-
-pub layout_of-layout-requires : goal.layout_of-layout-requires
-layout_of-layout-requires c = few_points c.requires.0
-
-pub put_shares-requires : goal.put_shares-requires
-put_shares-requires c =
-    (c.requires.0, omega (arith, c.requires.1))
-
-pub slice_bounds-put_part-end : goal.slice_bounds-put_part-end
-slice_bounds-put_part-end c = sym (left_size (goal.at.slice_bounds-put_part-end c).Start)
-
-pub put_part-requires : goal.put_part-requires
-put_part-requires c =
-    (omega (arith, left_size (goal.at.put_part-requires c).Start, few_points c.requires.0), omega (arith, c.requires.1, c.layout_of-layout.ensures, c.put_shares.auto.out))
-
-pub slice_bounds-put_part-end-2 : goal.slice_bounds-put_part-end-2
-slice_bounds-put_part-end-2 c = sym (left_size (goal.at.slice_bounds-put_part-end-2 c).Start)
-
-pub put_part-requires-2 : goal.put_part-requires-2
-put_part-requires-2 c =
-    (omega (arith, left_size (goal.at.put_part-requires-2 c).Start, few_points c.requires.0), omega (arith, c.requires.1, c.layout_of-layout.ensures, c.put_shares.auto.out, c.put_part.auto.out))
-
-pub slice_bounds-put_part-end-3 : goal.slice_bounds-put_part-end-3
-slice_bounds-put_part-end-3 c = sym (origins_size (goal.at.slice_bounds-put_part-end-3 c).Start)
-
-pub put_part-requires-3 : goal.put_part-requires-3
-put_part-requires-3 c = (
-  omega (arith, origins_size (goal.at.put_part-requires-3 c).Start, few_points c.requires.0),
-  omega (arith, c.requires.1, c.layout_of-layout.ensures, c.put_shares.auto.out, c.put_part.auto.out, c.put_part-2.auto.out),
-)
+pub put_origins-requires : goal.put_origins-requires
+put_origins-requires c =
+    let r = c.args.registration.now in
+    let left = c.args.allocated.now.left in
+    let size : length left ≡ 64 = search rules in
+    let few = few_points c.requires.0 in
+    let points = length-take-le c.points-points.result left (omega (arith, c.points-points.ensures)) in
+    let shares = pairs_length r (place_at c.args.allocated.now.shares) in
+    omega (arith, c.requires.1, c.requires.2, c.points-points.ensures, c.split_at.ensures.front_len, c.split_at.ensures.back_len, c.put_shares.ensures.put.end, c.put_shares.ensures.same_length, c.put.ensures.put.end, c.put.ensures.same_length, c.put-2.ensures.put.end, c.put-2.ensures.same_length)
 
 pub returns : goal.returns
 returns c =
-    let a = c.args in
-    let laid = c.layout_of-layout.ensures in
-    parts_put a.registration (result_in a.registration a.allocated a.values.origins) (lengths_in a.registration a.allocated a.values.origins)
-    a.out.now c.requires.1 laid.withdrawals laid.supplies laid.origins c.put_shares.ensures
-    (same_places a.allocated.left _ _ _ (λ i. omega arith)) c.put_part.ensures
-    (same_places a.allocated.left _ _ _ (λ i. omega arith)) c.put_part-2.ensures
-    (same_places a.values.origins _ _ _ (λ i. omega arith)) c.put_part-3.ensures
+    let r = c.args.registration.now in
+    let left = c.args.allocated.now.left in
+    let size : length left ≡ 64 = search rules in
+    let few = few_points c.requires.0 in
+    let withdrawals : c.split_at.result.1.now ≡ table (λ i. get_or left (r.producers + i) 0) r.consumers =
+    c.split_at.ensures.back ∙ rw c.points-points.ensures (back_table left r.producers r.consumers (omega arith)) in
+    let supplies : c.split_at.result.0.now ≡ table (λ i. get_or left i 0) r.producers =
+    c.split_at.ensures.front ∙ rw c.points-points.ensures (front_table left r.producers r.consumers (omega arith)) in
+    let first = rw withdrawals at c.put.ensures in
+    let second = rw supplies at c.put-2.ensures in
+    (lent_put (added_then c.put_shares.ensures (added_then first (added_then second c.put_origins.ensures))) (search rules)).list
