@@ -94,7 +94,7 @@ pub fn put_columns<const N: usize>(page: &mut Page<u8>, widths: &[usize; N], num
     requires { page.old.end + total widths.now ≤ length page.old.space.now }
     ensures { Added (columns_of widths.now numbers.now) page.old page.new }
 {
-    for (i, width) in widths.iter().enumerate() {
-        columns::put_number(page, *width, numbers[i]);
+    for (width, number) in widths.iter().zip(numbers) {
+        columns::put_number(page, *width, *number);
     }
 }

@@ -5,7 +5,7 @@ use Rattle.lists.proofs.Adding.{added_then}
 use Rattle.lines.proofs.Format.put.Goals as goal
 
 pub put-requires-2 : goal.put-requires-2
-put-requires-2 g c = omega (arith, length_columns c.args.self.now.widths c.args.numbers (omega arith))
+put-requires-2 g c = omega (arith, length_columns)
 
 pub returns : goal.returns
 returns g c = added_then c.put.ensures (added_then c.put_columns.ensures c.put-2.ensures)
