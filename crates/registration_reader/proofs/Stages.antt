@@ -4,7 +4,6 @@ use mathlib.Core.Path.{◌≡◌, refl, ap, ◌∙◌}
 use mathlib.Core.List.{List}
 use Rattle.std.specs.Prelude.{Option, Ok, Err}
 use Rattle.std.specs.Result.{result_and}
-use native.Mathlib.Nat.{sub-zero}
 use native.Mathlib.Omega.{arith}
 use Rattle.answers.specs.declared.Refusal.{Refusal}
 use Rattle.answers.specs.Numbers.{Verdict}
@@ -35,10 +34,6 @@ pub record Reading (kind : LineKind) (count : ℕ) (begun : Registration) (text 
   pub stage : kind.read 0 count begun text ≡ kind.read i (count - i) r left
   pub producers : r.producers ≡ begun.producers
   pub consumers : r.consumers ≡ begun.consumers
-
-pub reading_begins : (kind : LineKind) (count : ℕ) (begun : Registration) (text : List ℕ) → Reading kind count begun text begun text 0
-reading_begins kind count begun text =
-    record { some_left = omega arith; stage = rw (sub-zero count); producers = refl; consumers = refl }
 
 module _ {kind : LineKind} {count : ℕ} {begun : Registration} {text : List ℕ} {r : Registration} {left : List ℕ} {i : ℕ} (reading : Reading kind count begun text r left i) where
   pub reading_ends : count ≤ i → kind.read 0 count begun text ≡ going r left

@@ -8,30 +8,8 @@ ghost use Rattle.registration_text.specs.Lines.{letter_g, letter_d, widths_g, wi
 ghost use Rattle.registration_text.specs.Reader.{fixed_in, rest_in, verdict_g, verdict_d, verdict_o, with_counts, with_point, with_count, with_pairs, with_consumer};
 
 use answers::Refusal;
-use lines::Format;
 use registration::{Pair, Registration};
-
-// The line of the group: producers, consumers, iteration.
-const GROUP: Format<3> = Format {
-    letter: b'G',
-    widths: [4, 4, 2],
-};
-
-// The line of a producer: code, status.
-const PRODUCER: Format<2> = Format {
-    letter: b'D',
-    widths: [19, 2],
-};
-
-// The widths of the fixed part of a consumer's line, which has code, status and count, and of each pair after it, a producer's number and the key.
-const FIXED: [usize; 3] = [19, 2, 2];
-
-const PAIR: [usize; 2] = [4, 6];
-
-// The bytes of a consumer's line up to its pairs, and of a pair.
-const FIXED_BYTES: usize = 24;
-
-const PAIR_BYTES: usize = 10;
+use registration_text::{CONSUMER, FIXED, FIXED_BYTES, GROUP, PAIR, PAIR_BYTES, PRODUCER};
 
 // The most that a line may say.
 const STATUS_MOST: u64 = Registration::STATUS_MOST as u64;
@@ -96,7 +74,7 @@ pub fn read_producer(
 fn read_fixed(line: &[u8]) -> Option<[u64; 3]>
     ensures { result ≡ fixed_in line.now }
 {
-    if line.len() < FIXED_BYTES || line[0] != b'O' {
+    if line.len() < FIXED_BYTES || line[0] != CONSUMER {
         return None;
     }
     lines::read_columns(&line[1..], &FIXED)

@@ -1,20 +1,16 @@
 -- A list's front followed by zeros, and numbers put into a list one after the other. Assumes nothing.
 use Prim.Native.Nat.{ℕ, zero, suc, ◌+◌, ◌≤◌, ◌<◌}
 use mathlib.Core.Path.{◌≡◌, refl, sym, ap, ◌∙◌}
-use mathlib.Core.Bool.{Bool, true, false}
 use mathlib.Core.List.{List, [], ◌∷◌}
 use native.Mathlib.Omega.{arith}
 use native.Mathlib.Nat.{add-zero}
 use borrow.Author.Tests.{ltb-true, ltb-false, eqb-true, eqb-false}
 use lib.Dec.{ltb, eqb}
+use Rattle.lists.proofs.Cases.{by_test}
 use lib.ListN.{length, get_or, set, drop, replicate, length-set}
 use lib.Seq.{get_or-drop, get_or-set_same, get_or-set_other, ext_get_or}
 
 -- ---- cases by a number
-
-by_test : {A : Type 0} (b : Bool) → (b ≡ true → A) → (b ≡ false → A) → A
-by_test true f g = f refl
-by_test false f g = g refl
 
 module _ {A : Type 0} (i n : ℕ) where
   pub by_order : (i < n → A) → (n ≤ i → A) → A

@@ -5,8 +5,7 @@ use mathlib.Core.List.{List, [], ◌∷◌, ◌++◌}
 use native.Mathlib.Nat.{add_assoc}
 use native.Mathlib.Omega.{arith}
 use lib.ListN.{length, get_or, length-append}
-use Rattle.columns.specs.Fields.{columns_of, total}
-use Rattle.lists.specs.Place.{Put}
+use Rattle.columns.specs.Fields.{columns_of}
 use Rattle.columns.proofs.Laws.{columns_of_nil, columns_append, length_columns}
 use Rattle.lines.proofs.Laws.{length_line}
 use Rattle.registration.specs.declared.Registration.{Registration}
@@ -48,18 +47,15 @@ as_many_pairs source key i zero = refl
 as_many_pairs source key i (suc n) = rw (as_many_pairs source key (suc i) n)
 
 pub length__g : (r : Registration) → length (line_g r) ≡ 12
-unfolding total
 length__g r = length_line letter_g widths_g _ refl
 
 pub length__d : (r : Registration) (producer : ℕ) → length (line_d r producer) ≡ 23
-unfolding total
 length__d r producer = length_line letter_d widths_d _ refl
 
 pub length_lines__d : (r : Registration) (n : ℕ) → length (joined (line_d r) n) ≡ 23 * n
 length_lines__d r n = length_even _ 23 n (length__d r)
 
 pub length_pair : (source key : ℕ → ℕ) (priority : ℕ) → length (pair_columns source key priority) ≡ 10
-unfolding total
 length_pair source key priority = length_columns (4 ∷ 6 ∷ []) _ refl
 
 pub length_pairs : (source key : ℕ → ℕ) (n : ℕ) → length (joined (pair_columns source key) n) ≡ 10 * n
@@ -70,7 +66,6 @@ abbrev pub length_o : List ℕ → ℕ → ℕ
 length_o counts consumer = 25 + 10 * get_or counts consumer 0
 
 pub length__o : (r : Registration) (consumer : ℕ) → length (line_o r consumer) ≡ length_o r.counts consumer
-unfolding total
 length__o r consumer =
     length_line letter_o (widths_o ++ widths_of_pairs (count_at r consumer)) _
     (rw (as_many_pairs (source_at r consumer) (key_at r consumer) 0 (count_at r consumer)))
@@ -83,13 +78,3 @@ text_parts r = length-append (line_g r) _ ∙ rw (length__g r, length-append, li
 
 pub length_text : (r : Registration) → length (text_of r) ≡ 12 + 23 * r.producers + sum_below (length_o r.counts) r.consumers
 length_text r = text_parts r ∙ rw (lines__o, length_joined (line_o r) _ r.consumers (length__o r), add_assoc)
-
--- where the fixed part of a consumer's line ends, and where its numbers and keys do
-pub fixed_end : (code status count : ℕ) {at next : ℕ} {before after : List ℕ}
-    → Put at (letter_o ∷ columns_of widths_o (code ∷ status ∷ count ∷ [])) before after next → next ≡ at + 24
-unfolding total
-fixed_end code status count p = p.end ∙ rw (length_columns widths_o (code ∷ status ∷ count ∷ []) refl)
-
-pub pairs_end : (source key : ℕ → ℕ) (n : ℕ) {at next : ℕ} {before after : List ℕ}
-    → Put at (columns_of (widths_of_pairs n) (pairs_from source key 0 n)) before after next → next ≡ at + 10 * n
-pairs_end source key n p = p.end ∙ rw (length_columns (widths_of_pairs n) _ (as_many_pairs source key 0 n), total_pairs)

@@ -3,28 +3,26 @@
 
 ghost use Rattle.registration_text.specs.Writer.{Wrote};
 
-use answers::{Refusal, Verdict};
+use answers::Refusal;
+use lists::Page;
 use registration::Registration;
-use registration_text::Written;
 
 mod letters;
 
-// Writes a registration's text to the front of a buffer.
-pub fn write(registration: Registration, out: &mut [u8]) -> Written
-    ensures { Wrote registration out.old out.new result }
+// Writes a registration's text to the front of a buffer, and gives the number of its bytes.
+pub fn write(registration: &Registration, out: &mut [u8]) -> Result<usize, Refusal>
+    ensures { Wrote registration.now out.old out.new result }
 {
     if registration_damage::damaged(registration) {
-        return letters::refused(Refusal::Damaged);
+        return Err(Refusal::Damaged);
     }
     let size = letters::size(registration);
     if out.len() < size {
-        return letters::refused(Refusal::TooShort);
+        return Err(Refusal::TooShort);
     }
-    let at = letters::write_group(out, 0, registration);
-    let at = letters::write_producers(out, at, registration);
-    let at = letters::write_consumers(out, at, registration);
-    Written {
-        verdict: Verdict::Accepted,
-        bytes: at,
-    }
+    let mut page = Page { space: out, end: 0 };
+    letters::put_group(&mut page, registration);
+    letters::put_producers(&mut page, registration);
+    letters::put_consumers(&mut page, registration);
+    Ok(page.end)
 }

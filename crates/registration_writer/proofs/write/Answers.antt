@@ -1,62 +1,53 @@
--- `registration_writer::write` meets its contract: a refusal alters nothing, and G, D and O lines put in turn are the text. Assumes nothing.
-use native.Mathlib.Omega.{arith}
+-- `registration_writer::write` meets its contract: an undamaged registration's lines have room, and make its text. Assumes nothing.
+use Prim.Native.Nat.{◌+◌, ◌*◌, ◌≤◌}
 use mathlib.Core.Path.{◌≡◌, sym, ◌∙◌}
 use mathlib.Core.Bool.{false}
-use Prim.Native.Nat.{◌≤◌}
+use native.Mathlib.Omega.{arith}
+use borrow.Author.Rules.{rules}
 use lib.ListN.{length}
-use Rattle.registration_text.specs.Writer.{text_of}
+use Rattle.lists.proofs.Adding.{lent_put}
 use Rattle.registration.specs.Damage.{is_damaged}
-use Rattle.registration_writer.proofs.Sizes.{text_parts}
-use Rattle.registration_writer.proofs.WholeText.{few_points, few_sources, group_end, producers_end, text_put, refused_damaged, refused_short, accepted}
+use Rattle.registration_text.specs.Writer.{lines_o}
+use Rattle.registration_writer.proofs.Sizes.{length__g, text_parts}
+use Rattle.registration_writer.proofs.WholeText.{few_points, few_sources, length_producers, text_added, refused_damaged, refused_short, accepted}
 use Rattle.registration_writer.proofs.write.Goals as goal
-use Rattle.registration_writer.proofs.write.Goals.{Else-damaged, Else-out-size}
+use Rattle.registration_writer.proofs.write.Goals.{Else-damaged, After-size-size}
 
-undamaged : (c : Else-damaged) → is_damaged c.args.registration ≡ false
+undamaged : (c : Else-damaged) → is_damaged c.args.registration.now ≡ false
 undamaged c = sym c.damaged.ensures ∙ c.if-damaged.false
 
--- the text fits the buffer
-fits : (c : Else-out-size) → length (text_of c.args.registration) ≤ length c.args.out.now
-fits c = omega (arith, rw c.size-size.ensures at c.if-out-size.false)
+-- a buffer that is not too short has room for the lines
+room : (c : After-size-size) → c.size-size.result ≤ length c.args.out.now → let r = c.args.registration.now in
+    12 + (23 * r.producers + length (lines_o r 0 r.consumers)) ≤ length c.args.out.now
+room c h = omega (arith, c.size-size.ensures, text_parts c.args.registration.now)
 
 pub returns-then-damaged : goal.returns-then-damaged
-returns-then-damaged c = refused_damaged _ _ (sym c.damaged.ensures ∙ c.if-damaged.true) c.refused.ensures
+returns-then-damaged c = refused_damaged _ _ (sym c.damaged.ensures ∙ c.if-damaged.true)
 
 pub size-size-requires : goal.size-size-requires
-size-size-requires c = few_points _ (undamaged (goal.at.size-size-requires c).Else-damaged)
+size-size-requires c = few_points _ (undamaged c)
 
 pub returns-then-out-size : goal.returns-then-out-size
-returns-then-out-size c =
-    let e = undamaged (goal.at.returns-then-out-size c).Else-damaged in
-    refused_short _ _ e (rw c.size-size.ensures at c.if-out-size.true) c.refused-then-out-size.ensures
+returns-then-out-size c = refused_short _ _ (undamaged (goal.at.returns-then-out-size c).Else-damaged) (omega (arith, c.size-size.ensures))
 
-pub write_group-at-requires : goal.write_group-at-requires
-write_group-at-requires c = omega (arith, fits (goal.at.write_group-at-requires c).Else-out-size, text_parts c.args.registration)
+pub put_group-requires : goal.put_group-requires
+put_group-requires c = omega (arith, room (goal.at.put_group-requires c).After-size-size c.if-out-size.false)
 
-pub write_producers-at-requires : goal.write_producers-at-requires
-write_producers-at-requires c =
-    let r = c.args.registration in
-    let h = fits (goal.at.write_producers-at-requires c).Else-out-size in
-    let few = few_points r (undamaged (goal.at.write_producers-at-requires c).Else-damaged) in
-    omega (arith, h, text_parts r, few, group_end r c.write_group-at.ensures)
+pub put_producers-requires : goal.put_producers-requires
+put_producers-requires c =
+    let r = c.args.registration.now in
+    let fits = room (goal.at.put_producers-requires c).After-size-size c.if-out-size.false in
+    (omega (arith, few_points r (undamaged (goal.at.put_producers-requires c).Else-damaged)), omega (arith, length__g r))
 
-pub write_consumers-at-requires : goal.write_consumers-at-requires
-write_consumers-at-requires c =
-    let r = c.args.registration in
-    let e = undamaged (goal.at.write_consumers-at-requires c).Else-damaged in
-    let l = group_end r c.write_group-at.ensures in
-    let m = producers_end r c.write_producers-at.ensures in
-    record {
-      consumers_bound = few_points r e;
-      by_index = few_sources r e;
-      consumers_in_bounds = omega (arith, fits (goal.at.write_consumers-at-requires c).Else-out-size, text_parts r);
-    }
+pub put_consumers-requires : goal.put_consumers-requires
+put_consumers-requires c =
+    let r = c.args.registration.now in
+    let sound = undamaged (goal.at.put_consumers-requires c).Else-damaged in
+    let fits = room (goal.at.put_consumers-requires c).After-size-size c.if-out-size.false in
+    record { points_bound = few_points r sound; by_index = few_sources r sound; room = omega (arith, length__g r, length_producers r) }
 
 pub returns : goal.returns
 returns c =
-    let r = c.args.registration in
-    let h = fits (goal.at.returns c).Else-out-size in
-    let n = text_parts r in
-    let l = group_end r c.write_group-at.ensures in
-    let m = producers_end r c.write_producers-at.ensures in
-    accepted r _ (undamaged (goal.at.returns c).Else-damaged) h
-    (text_put r (omega arith) (omega arith) c.write_group-at.ensures c.write_producers-at.ensures c.write_consumers-at.ensures)
+    let r = c.args.registration.now in
+    accepted r _ (undamaged (goal.at.returns c).Else-damaged) (omega (arith, c.size-size.ensures))
+    (lent_put (text_added r c.put_group.ensures c.put_producers.ensures c.put_consumers.ensures) (search rules))
