@@ -19,7 +19,7 @@ put-requires c =
     (omega arith, (omega arith, rw length_of_share at fits))
 
 pub loop-priority-preserved : goal.loop-priority-preserved
-loop-priority-preserved c = piece_more _ c.loop-priority.invariant (rw (zero-add, ← c.pair-source.ensures.0) c.put.ensures)
+loop-priority-preserved c = piece_more _ c.loop-priority.invariant (rw zero-add (rw c.pair-source.ensures at c.put.ensures))
 
 pub returns : goal.returns
 returns c = rw shares_joined (all_pieces _ c.loop-priority.invariant (omega arith) (omega arith))
