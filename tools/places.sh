@@ -40,3 +40,7 @@ if [ -n "$at" ]; then count() { git grep -hE "$1" "$at" -- "$2"; }; else count()
 echo "8a answers: $(count '^pub [^ ]+ : goal\.' 'crates/*/proofs/*Answers.antt' | wc -l)"
 echo "8b lines of proof files: $(count '.' 'crates/*/proofs/*.antt' | wc -l)"
 echo "8c lines of statements and definitions: $(count '.' 'crates/*/specs/*.antt' | wc -l)"
+echo
+echo '## 5f facts that three or more functions ask for'
+if [ -n "$at" ]; then clauses() { git grep -hE '^ *requires ' "$at" -- 'crates/*/src/*.rt'; }; else clauses() { git grep -hE '^ *requires ' -- 'crates/*/src/*.rt'; }; fi
+clauses | sed -E 's/^ *requires [a-z_]* *\{ (.*) \}$/\1/; s/ × /\n/g' | sed -E 's/^\((.*)\)$/\1/; s/\.(now|old)//g' | sort | uniq -c | sort -rn | awk '$1 >= 3'
