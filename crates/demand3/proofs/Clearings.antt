@@ -5,7 +5,7 @@ use mathlib.Core.Path.{◌∙◌}
 use lib.ListN.{length}
 use Rattle.journal.proofs.PlaceLaws.{day_in_place}
 use Rattle.journal.proofs.Kept.{shown_keep}
-use Rattle.journal.proofs.Entries.{right_rising}
+use Rattle.journal.proofs.RightEntries.{right_rising}
 use Rattle.points.specs.Points.{index_of}
 use Rattle.group.specs.Group.{Group, roll_of, place_for}
 use Rattle.service.specs.Calls.{cleared}

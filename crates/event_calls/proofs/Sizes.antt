@@ -1,10 +1,14 @@
 -- How large the result of an accepted evaluation is: its registration is not damaged, so it has few points and few pairs. Assumes nothing.
 use Prim.Native.Nat.{ℕ, ◌+◌, ◌≤◌, ◌<◌}
-use mathlib.Core.Path.{◌≡◌, sym, ap, ◌∙◌}
-use mathlib.Core.Bool.{false}
+use mathlib.Core.Path.{◌≡◌, refl, sym, ap, ◌∙◌}
+use mathlib.Core.Bool.{true, false}
 use mathlib.Core.List.{List}
 use native.Mathlib.Omega.{arith}
-use Rattle.answers.specs.declared.Verdict.TheVariants.{Accepted}
+use Rattle.std.specs.Prelude.{Result, Ok, Err}
+use Rattle.std.specs.Result.{result_and, is_ok}
+use Rattle.answers.specs.declared.Refusal.{Refusal}
+use Rattle.answers.specs.Numbers.{Verdict}
+use Rattle.lookup.specs.declared.Asked.{Asked}
 use Rattle.lists.proofs.Below.{and_left, every_at, sum_bound}
 use Rattle.registration.specs.declared.Registration.{Registration}
 use Rattle.registration.specs.Rules.{count_at, count_right, consumer_right}
@@ -14,7 +18,6 @@ use Rattle.registration.proofs.Bounds.{count_bounds}
 use Rattle.evaluation.specs.Layout.{size_of, result_most}
 use Rattle.evaluation.proofs.Laws.{result_within_most}
 use Rattle.service.specs.declared.Service.{Service}
-use Rattle.service.specs.declared.Evaluated.{Evaluated}
 use Rattle.service.specs.Call.{Evaluation, is_refused, refused}
 use Rattle.group.specs.Refusals.{evaluation_verdict}
 use Rattle.service.specs.Calls.{evaluated, step}
@@ -50,8 +53,8 @@ undamaged_small r e =
 
 module _ (s : Service) (j : List ℕ) (day quarter T : ℕ) (lent : List ℕ) where
   -- an accepted evaluation has passed all tests
-  pub evaluation_passed : (call_on s j (Evaluation day quarter T lent)).seen.verdict ≡ Accepted
-      → evaluation_verdict s.state.last (group_of s j) day quarter T lent ≡ Accepted
+  pub evaluation_passed : (call_on s j (Evaluation day quarter T lent)).seen.verdict ≡ Ok tt
+      → evaluation_verdict s.state.last (group_of s j) day quarter T lent ≡ Ok tt
   unfolding step
   evaluation_passed e =
       accepted_verdict (evaluation_verdict s.state.last (group_of s j) day quarter T lent) s.state.last (group_of s j) lent
@@ -59,10 +62,17 @@ module _ (s : Service) (j : List ℕ) (day quarter T : ℕ) (lent : List ℕ) wh
       (ap refused (sym (through s j (Evaluation day quarter T lent)).seen) ∙ ap is_refused e)
 
   -- so its registration is not damaged
-  pub evaluation_small : (call_on s j (Evaluation day quarter T lent)).seen.verdict ≡ Accepted → Small s.registration
-  evaluation_small e = undamaged_small _ (evaluation_sound s j day quarter T lent (evaluation_passed e)).registered
+  pub evaluation_small : (call_on s j (Evaluation day quarter T lent)).seen.verdict ≡ Ok tt → Small s.registration
+  evaluation_small e = undamaged_small _ (evaluation_sound s j (record { day = day; quarter = quarter; until = T }) lent (evaluation_passed e)).registered
 
-  -- the same of what the code's evaluation answers
-  pub evaluates_small : (answer : Evaluated) (lent' : List ℕ) → Evaluates s j day quarter T lent answer lent' → answer.verdict ≡ Accepted
-      → Small s.registration
-  evaluates_small answer lent' k e = evaluation_small (ap (λ (a : Evaluated). a.verdict) (sym k.answers) ∙ e)
+-- a verdict with a number that is accepted
+accepted_ok : (verdict : Verdict) (number : ℕ) → is_ok (result_and verdict (Ok number)) ≡ true → verdict ≡ Ok tt
+accepted_ok (Ok _) number e = refl
+accepted_ok (Err refusal) number e = cc
+
+-- the same of what the code's evaluation answers
+pub evaluates_small : (s : Service) (j : List ℕ) (asked : Asked) (lent : List ℕ) (answer : Result ℕ Refusal) (lent' : List ℕ)
+    → Evaluates s j asked lent answer lent' → is_ok answer ≡ true → Small s.registration
+evaluates_small s j asked lent answer lent' k e =
+    let seen = (call_on s j (Evaluation asked.day asked.quarter asked.until lent)).seen in
+    evaluation_small s j asked.day asked.quarter asked.until lent (accepted_ok seen.verdict seen.number (rw k.answers at e))

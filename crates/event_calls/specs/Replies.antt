@@ -1,11 +1,7 @@
 -- What a line does to record and journal, and the bytes that answer it: 1, then 9 for the date, then the call's own order. Assumes nothing.
-use Rattle.std.specs.Prelude.{ℕ, List, [], ◌++◌, ℤ, replicate, Option, None, Some}
+use Rattle.std.specs.Prelude.{ℕ, List, [], ◌++◌, ℤ, replicate, Option, None, Some, Ok, Err}
 use Rattle.answers.specs.declared.Refusal.TheVariants.{NotInColumns, NoSuchDay}
-use Rattle.answers.specs.declared.Verdict.{Verdict}
-use Rattle.answers.specs.declared.Verdict.TheVariants.{Accepted, Refused}
-use Rattle.answers.specs.Numbers.{number_of, answer_of}
-use Rattle.calendar.specs.declared.Day.{Day}
-use Rattle.calendar.specs.declared.Day.TheVariants.{Is, Missing}
+use Rattle.answers.specs.Numbers.{Verdict, number_of, answer_of}
 use Rattle.calendar.specs.Dates.{day_of}
 use Rattle.registration.specs.declared.Registration.{Registration}
 use Rattle.evaluation.specs.Layout.{result_most}
@@ -15,7 +11,7 @@ use Rattle.service.specs.Call.{Call, Seen}
 use Rattle.service.specs.Call.{Submission as Submit, Clear as ClearUp, Evaluation as Evaluate}
 use Rattle.service.specs.Record.{call_on}
 use Rattle.event_reader.specs.declared.Event.{Event}
-use Rattle.event_reader.specs.declared.Event.TheVariants.{Submission, Clear, Evaluation, Malformed}
+use Rattle.event_reader.specs.declared.Event.TheVariants.{Submission, Clear, Evaluation}
 use Rattle.event_reader.specs.Events.{event_in}
 use Rattle.event_writer.specs.Answers.{line_a, line_r, lines_of_result}
 
@@ -26,29 +22,29 @@ result_list = replicate result_most 0
 -- ---- the call that a line asks for
 
 -- a call on the day of a date, which may not exist
-abbrev pub on_day : Day → (ℕ → Call) → Option Call
-on_day Missing call = None
-on_day (Is day) call = Some (call day)
+abbrev pub on_day : Option ℕ → (ℕ → Call) → Option Call
+on_day None call = None
+on_day (Some day) call = Some (call day)
 
 -- what an M line measures, on the day of its date
 abbrev pub measured : (code quarter : ℕ) → ℤ → (day : ℕ) → Measurement
 measured code quarter value day = record { code = code; day = day; quarter = quarter; value = value }
 
 -- the call that a line asks for; a malformed line asks for none, and neither does one whose date does not exist
-abbrev pub call_of : Event → Option Call
-call_of (Submission clock code date quarter value) = on_day (day_of date) (λ day. Submit clock (measured code quarter value day))
-call_of (Clear date stamp) = on_day (day_of date) (λ day. ClearUp day stamp)
-call_of (Evaluation date quarter T) = on_day (day_of date) (λ day. Evaluate day quarter T result_list)
-call_of Malformed = None
+abbrev pub call_of : Option Event → Option Call
+call_of None = None
+call_of (Some (Submission clock code date quarter value)) = on_day (day_of date) (λ day. Submit clock (measured code quarter value day))
+call_of (Some (Clear date stamp)) = on_day (day_of date) (λ day. ClearUp day stamp)
+call_of (Some (Evaluation date quarter T)) = on_day (day_of date) (λ day. Evaluate day quarter T result_list)
 
 -- ---- the text that answers it
 
 -- the answer to a line that asks for no call: 1 for a malformed line, 9 for its date; an E line in its columns is answered by an R line
-abbrev pub refusal_text : Event → List ℕ
-refusal_text (Submission clock code date quarter value) = line_a (number_of NoSuchDay) 0
-refusal_text (Clear date stamp) = line_a (number_of NoSuchDay) 0
-refusal_text (Evaluation date quarter T) = line_r (number_of NoSuchDay) 0
-refusal_text Malformed = line_a (number_of NotInColumns) 0
+abbrev pub refusal_text : Option Event → List ℕ
+refusal_text None = line_a (number_of NotInColumns) 0
+refusal_text (Some (Submission clock code date quarter value)) = line_a (number_of NoSuchDay) 0
+refusal_text (Some (Clear date stamp)) = line_a (number_of NoSuchDay) 0
+refusal_text (Some (Evaluation date quarter T)) = line_r (number_of NoSuchDay) 0
 
 -- the A line of a submission or a clear: its answer, and the stamp or the dropped count
 abbrev pub answer_text : Seen → List ℕ
@@ -56,8 +52,8 @@ answer_text seen = line_a (answer_of seen.verdict) seen.number
 
 -- the lines of a result, none where the evaluation is refused
 abbrev pub result_text : Verdict → Registration → (numbers : List ℕ) → List ℕ
-result_text Accepted r numbers = lines_of_result r numbers
-result_text (Refused refusal) r numbers = []
+result_text (Ok _) r numbers = lines_of_result r numbers
+result_text (Err refusal) r numbers = []
 
 -- the R line of an evaluation, and the lines of its result
 abbrev pub evaluation_text : Registration → Seen → List ℕ
@@ -88,12 +84,12 @@ one_call s j call =
     record { service = left.service; journal = left.journal; bytes = call_text s.registration call left.seen }
 
 -- the reply to what a line asks for
-abbrev pub reply_with : Service → (journal : List ℕ) → Event → Option Call → Reply
+abbrev pub reply_with : Service → (journal : List ℕ) → Option Event → Option Call → Reply
 reply_with s j event None = no_call s j (refusal_text event)
 reply_with s j event (Some call) = one_call s j call
 
--- the reply to an event
-abbrev pub reply_of : Service → (journal : List ℕ) → Event → Reply
+-- the reply to an event, or to a malformed line
+abbrev pub reply_of : Service → (journal : List ℕ) → Option Event → Reply
 reply_of s j event = reply_with s j event (call_of event)
 
 -- the reply to a line

@@ -1,143 +1,100 @@
 // The calls that events ask for: 9 for the date, then the call's own order, and the answer written to the front of a buffer.
 #![tactic(auto)]
 
-ghost use Rattle.std.specs.Prelude.{◌≡◌, ◌≤◌, length};
-ghost use Rattle.answers.specs.declared.Verdict.TheVariants.{Accepted as AcceptedCall};
-ghost use Rattle.answers.specs.Numbers.{number_of};
-ghost use Rattle.lists.specs.Place.{Put};
+ghost use Rattle.std.specs.Prelude.{◌≡◌, ◌+◌, ◌≤◌, length, Some};
+ghost use Rattle.std.specs.Result.{result_unwrap_or};
+ghost use Rattle.answers.specs.Numbers.{answer_of};
+ghost use Rattle.lists.specs.Pages.{Added};
 ghost use Rattle.event_reader.specs.declared.Event.TheVariants.{Submission as SubmissionLine, Clear as ClearLine, Evaluation as EvaluationLine};
 ghost use Rattle.event_writer.specs.Answers.{line_a, bytes_of_answer};
-ghost use Rattle.event_calls.specs.Replies.{reply_of};
-ghost use Rattle.event_calls.specs.Promises.{answer_most, Replies};
+ghost use Rattle.event_calls.specs.Replies.{call_of, reply_of};
+ghost use Rattle.event_calls.specs.Promises.{answer_most, Calls, Replied, Replies};
 
-use answers::{Refusal, Verdict};
-use calendar::Day;
+use answers::Refusal;
 use event_reader::Event;
-use service::{Service, State};
+use lists::Page;
+use lookup::Asked;
+use service::Service;
 use values::Measurement;
 
 // The room that an answer is given; no answer is longer, as `event_text` shows.
 pub const ANSWER_MOST: usize = 7844;
 
-// What answering an event gives: whether it was answered, which `reply` always does; the record's changing part after it, and how many bytes
-// were written.
-#[derive(Clone, Copy)]
-pub struct Answered {
-    pub verdict: Verdict,
-    pub state: State,
-    pub bytes: usize,
-}
-
-// Puts the A line of a refusal to the front of a buffer.
-pub fn put_refusal(out: &mut [u8], refusal: Refusal) -> usize
-    requires { bytes_of_answer ≤ length out.old }
-    ensures { Put 0 (line_a (number_of refusal) 0) out.old out.new result }
+// Puts the A line of what a call answers: the stamp or the dropped count, 0 where it is refused.
+pub fn put_answer(page: &mut Page<u8>, answer: Result<u64, Refusal>)
+    requires { page.old.end + bytes_of_answer ≤ length page.old.space.now }
+    ensures { Added (line_a (answer_of answer) (result_unwrap_or answer 0)) page.old page.new }
 {
-    event_writer::put_answer(out, 0, refusal.number(), 0)
+    event_writer::put_answer(page, answers::answer(&answer), answer.unwrap_or(0))
 }
 
-// An event that was answered by so many bytes, with the record's changing part after it.
-fn with_bytes(state: State, bytes: usize) -> Answered
-    ensures { result ≡ record { verdict = AcceptedCall; state = state; bytes = bytes } }
-{
-    Answered {
-        verdict: Verdict::Accepted,
-        state,
-        bytes,
-    }
-}
-
-// An event that asks for no call: its refusal is written, and nothing is altered.
-fn no_call(state: State, out: &mut [u8], refusal: Refusal) -> Answered
-    requires { bytes_of_answer ≤ length out.old }
-    ensures { Put 0 (line_a (number_of refusal) 0) out.old out.new result.bytes × (result ≡ record { verdict = AcceptedCall; state = state; bytes = result.bytes }) }
-{
-    let bytes = put_refusal(out, refusal);
-    with_bytes(state, bytes)
-}
-
-// Answers a submission.
+// Makes the call of an M line.
 fn submission(
-    service: Service,
+    service: &mut Service,
     journal: &mut [u64],
     clock: u64,
     code: u64,
     date: u64,
     quarter: u64,
     value: i64,
-    out: &mut [u8],
-) -> Answered
-    requires { answer_most ≤ length out.old }
-    ensures { Replies AcceptedCall (reply_of service journal.old (SubmissionLine clock code date quarter value)) service out.old result journal.new out.new }
+) -> Result<u64, Refusal>
+    ensures { Calls service.old journal.old (call_of (Some (SubmissionLine clock code date quarter value))) service.new result journal.new }
 {
-    let Day::Is(day) = calendar::day_of(date) else {
-        return no_call(service.state, out, Refusal::NoSuchDay);
-    };
+    let day = calendar::day_of(date).ok_or(Refusal::NoSuchDay)?;
     let measurement = Measurement {
         code,
         day,
         quarter,
         value,
     };
-    let step = service.submit(journal, clock, measurement);
-    let state = step.state;
-    let submitted = step.submitted;
-    let verdict = submitted.verdict;
-    let bytes = event_writer::put_answer(out, 0, verdict.answer(), submitted.stamp);
-    with_bytes(state, bytes)
+    service.submit(journal, clock, measurement)
 }
 
-// Answers a clear.
-fn clear(service: Service, journal: &mut [u64], date: u64, stamp: u64, out: &mut [u8]) -> Answered
-    requires { answer_most ≤ length out.old }
-    ensures { Replies AcceptedCall (reply_of service journal.old (ClearLine date stamp)) service out.old result journal.new out.new }
+// Makes the call of a C line.
+fn clear(service: &mut Service, journal: &mut [u64], date: u64, stamp: u64) -> Result<u64, Refusal>
+    ensures { Calls service.old journal.old (call_of (Some (ClearLine date stamp))) service.new result journal.new }
 {
-    let Day::Is(day) = calendar::day_of(date) else {
-        return no_call(service.state, out, Refusal::NoSuchDay);
-    };
-    let step = service.clear(journal, day, stamp);
-    let state = step.state;
-    let cleared = step.cleared;
-    let verdict = cleared.verdict;
-    let bytes = event_writer::put_answer(out, 0, verdict.answer(), cleared.dropped as u64);
-    with_bytes(state, bytes)
+    let day = calendar::day_of(date).ok_or(Refusal::NoSuchDay)?;
+    let dropped = service.clear(journal, day, stamp)?;
+    Ok(dropped as u64)
 }
 
-// Answers an evaluation, which alters neither record nor journal.
-fn evaluation(
-    service: Service,
+// Answers an E line, whose call alters neither record nor journal.
+fn put_evaluation(
+    service: &Service,
     journal: &[u64],
     date: u64,
     quarter: u64,
     until: u64,
-    out: &mut [u8],
-) -> Answered
-    requires { answer_most ≤ length out.old }
-    ensures { Replies AcceptedCall (reply_of service journal.now (EvaluationLine date quarter until)) service out.old result journal.now out.new }
+    page: &mut Page<u8>,
+)
+    requires { page.old.end + answer_most ≤ length page.old.space.now }
+    ensures { Replied (reply_of service.now journal.now (Some (EvaluationLine date quarter until))) service.now journal.now page.old page.new }
 {
-    let state = service.state;
-    let Day::Is(day) = calendar::day_of(date) else {
-        let refusal = Refusal::NoSuchDay;
-        let bytes = event_writer::put_rounds(out, 0, refusal.number(), 0);
-        return with_bytes(state, bytes);
+    let Some(day) = calendar::day_of(date) else {
+        return event_writer::put_rounds(page, u64::from(Refusal::NoSuchDay), 0);
+    };
+    let asked = Asked {
+        day,
+        quarter,
+        until,
     };
     let mut numbers = [0; evaluation::RESULT_MOST];
-    let evaluated = service.evaluate(journal, day, quarter, until, &mut numbers);
-    let verdict = evaluated.verdict;
-    let at = event_writer::put_rounds(out, 0, verdict.answer(), evaluated.rounds as u64);
-    if let Verdict::Refused(refusal) = verdict {
-        return with_bytes(state, at);
+    let rounds = service.evaluate(journal, asked, &mut numbers);
+    event_writer::put_rounds(page, answers::answer(&rounds), rounds.unwrap_or(0) as u64);
+    if rounds.is_ok() {
+        event_writer::put_result(page, &service.registration, &numbers);
     }
-    let registration = service.registration;
-    let bytes = event_writer::put_result(out, at, registration, &numbers);
-    with_bytes(state, bytes)
 }
 
-// Answers an event: makes the call that it asks for on record and journal, and writes its answer to the front of a buffer.
-pub fn reply(service: Service, journal: &mut [u64], event: Event, out: &mut [u8]) -> Answered
-    requires { answer_most ≤ length out.old }
-    ensures { Replies AcceptedCall (reply_of service journal.old event) service out.old result journal.new out.new }
+// Answers an event on a page: makes the call that it asks for on record and journal.
+fn put_reply(service: &mut Service, journal: &mut [u64], event: Option<Event>, page: &mut Page<u8>)
+    requires { page.old.end + answer_most ≤ length page.old.space.now }
+    ensures { Replied (reply_of service.old journal.old event) service.new journal.new page.old page.new }
 {
+    let Some(event) = event else {
+        return put_answer(page, Err(Refusal::NotInColumns));
+    };
     match event {
         Event::Submission {
             clock,
@@ -145,13 +102,30 @@ pub fn reply(service: Service, journal: &mut [u64], event: Event, out: &mut [u8]
             date,
             quarter,
             value,
-        } => submission(service, journal, clock, code, date, quarter, value, out),
-        Event::Clear { date, stamp } => clear(service, journal, date, stamp, out),
+        } => put_answer(
+            page,
+            submission(service, journal, clock, code, date, quarter, value),
+        ),
+        Event::Clear { date, stamp } => put_answer(page, clear(service, journal, date, stamp)),
         Event::Evaluation {
             date,
             quarter,
             until,
-        } => evaluation(service, journal, date, quarter, until, out),
-        Event::Malformed => no_call(service.state, out, Refusal::NotInColumns),
+        } => put_evaluation(service, journal, date, quarter, until, page),
     }
+}
+
+// Answers an event: makes the call that it asks for on record and journal, and writes its answer to the front of a buffer. Returns how many bytes it has.
+pub fn reply(
+    service: &mut Service,
+    journal: &mut [u64],
+    event: Option<Event>,
+    out: &mut [u8],
+) -> usize
+    requires { answer_most ≤ length out.old }
+    ensures { Replies (reply_of service.old journal.old event) out.old service.new journal.new result out.new }
+{
+    let mut page = Page { space: out, end: 0 };
+    put_reply(service, journal, event, &mut page);
+    page.end
 }

@@ -1,16 +1,16 @@
 -- A text by its lines: the first and the later ones, the registration in front of the first event, and the events from there on. Assumes nothing.
-use Prim.Native.Nat.{ℕ, zero, suc, ◌≤◌}
+use Prim.Native.Nat.{ℕ, zero, suc, ◌+◌, ◌-◌, ◌≤◌, ◌<◌}
 use mathlib.Core.Path.{◌≡◌, refl, sym, ap, ◌∙◌}
 use mathlib.Core.Bool.{true, false, cond}
 use mathlib.Core.List.{List, [], ◌∷◌, ◌++◌, append_assoc}
 use native.Mathlib.Omega.{arith}
 use lib.Dec.{eqb}
-use lib.ListN.{length, take, drop, length-append}
-use lib.Seq.{take-append_seam, drop-append_seam}
+use lib.ListN.{length, get_or, take, drop, length-append, length-drop}
+use lib.Seq.{take-append_seam, drop-append_seam, drop-append-add}
 use Rattle.lists.proofs.Cases.{by_test}
 use Rattle.lines.specs.Line.{first_line, after_line}
 use Rattle.lines.proofs.Laws.{first_line_nil, first_line_cons, after_line_nil, after_line_cons, lines_join}
-use Rattle.event_text.specs.Share.{before, lines_of, is_event, registration_in, events_in}
+use Rattle.event_text.specs.Share.{before, lines_of, is_event, registration_in, events_in, events_text}
 
 -- ---- the clauses of the definitions
 
@@ -123,11 +123,48 @@ module _ (input : List ℕ) where
       ap (take (length registration)) (sym parts.joins) ∙ take-append_seam registration parts.rest
 
   -- the lines from its end on are the events
-  pub events_left : lines_of (drop (length (registration_in (lines_of input))) input) ≡ events_in (lines_of input)
+  pub events_left : lines_of (events_text input) ≡ events_in (lines_of input)
   events_left =
       let registration = registration_in (lines_of input) in
       ap lines_of (ap (drop (length registration)) (sym parts.joins) ∙ drop-append_seam registration parts.rest) ∙ parts.lines
 
-  -- it is no longer than the input
-  pub registration_within : length (registration_in (lines_of input)) ≤ length input
-  registration_within = omega (arith, ap length parts.joins, length-append (registration_in (lines_of input)) parts.rest)
+  -- what is left of the input before the text from the first event on is the registration
+  pub registration_before : (events : List ℕ) → events ≡ events_text input → take (length input - length events) input ≡ registration_in (lines_of input)
+  registration_before events e =
+      let registration = registration_in (lines_of input) in
+      let long = ap length parts.joins in
+      let front : length input - length events ≡ length registration =
+      omega (arith, long, length-append registration parts.rest, ap length e, length-drop (length registration) input) in
+      rw front registration_taken
+
+  -- and that text is no longer than the input
+  pub events_within : length (events_text input) ≤ length input
+  events_within = omega (arith, length-drop (length (registration_in (lines_of input))) input)
+
+-- ---- the text from the first event on, line by line
+
+pub events_ended : (text : List ℕ) → is_event text ≡ true → text ≡ events_text text
+events_ended text e = rw (registration_ended text e)
+
+pub events_nothing : (text : List ℕ) → length text ≤ 0 → text ≡ events_text text
+events_nothing [] h = rw registration_none
+events_nothing (byte ∷ bytes) h = absurd (omega arith)
+
+pub events_after : (text : List ℕ) → is_event text ≡ false → events_text (after_line text) ≡ events_text text
+events_after text e =
+    let first = first_line text in
+    let later = registration_in (lines_of (after_line text)) in
+    sym
+    (ap (λ (n : ℕ). drop n text) (ap length (registration_more text e) ∙ length-append first later)
+    ∙ ap (drop (length first + length later)) (sym (lines_join text))
+    ∙ drop-append-add first (after_line text) (length later))
+
+-- a text that has a byte is an event by that byte
+pub event_by_byte : (text : List ℕ) → 0 < length text → is_event (get_or text 0 0 ∷ []) ≡ is_event text
+event_by_byte [] h = absurd (omega arith)
+event_by_byte (byte ∷ bytes) h = refl
+
+-- and the text after its first line is shorter
+pub shorter : (text : List ℕ) → 0 < length text → length (after_line text) < length text
+shorter [] h = absurd (omega arith)
+shorter (byte ∷ bytes) h = omega (arith, after_shorter byte bytes)

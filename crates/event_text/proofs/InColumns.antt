@@ -8,9 +8,8 @@ use native.Mathlib.Omega.{arith}
 use borrow.Author.Tests.{lt-ltb}
 use Rattle.answers.specs.declared.Refusal.{Refusal}
 use Rattle.answers.specs.declared.Refusal.TheVariants.{NotInColumns, CodeFalse, CountOutside, CodeTwice, StatusOrIterationAbove, ProducerOrKeyWrong, KeysAbove, CodeNotInGroup, NoSuchDay, ValueWrong, DayCleared, StampOutside, ClockOutside, JournalFull, Damaged, TooShort}
-use Rattle.answers.specs.declared.Verdict.{Verdict}
-use Rattle.answers.specs.declared.Verdict.TheVariants.{Accepted, Refused}
-use Rattle.answers.specs.Numbers.{number_of, answer_of}
+use Rattle.std.specs.Prelude.{Ok, Err}
+use Rattle.answers.specs.Numbers.{Verdict, number_of, answer_of}
 use Rattle.columns.specs.Fields.{fitting}
 use Rattle.registration.specs.declared.Registration.{Registration}
 use Rattle.allocation.specs.Input.{Shareable}
@@ -69,8 +68,8 @@ refusal_small Damaged = omega arith
 refusal_small TooShort = omega arith
 
 answer_small : (verdict : Verdict) → answer_of verdict < 1000
-answer_small Accepted = omega arith
-answer_small (Refused refusal) = refusal_small refusal
+answer_small (Ok _) = omega arith
+answer_small (Err refusal) = refusal_small refusal
 
 -- the numbers of a result that are within, in a group of at most 64 points
 result_fits : (r : Registration) (numbers : List ℕ) → Shareable r → ResultWithin r numbers → ResultFits r numbers
@@ -94,6 +93,6 @@ call_fits s j (Clear day stamp) e =
 call_fits s j (Evaluation day quarter T lent) e = (
   fits__r _ _ (answer_small (call_on s j (Evaluation day quarter T lent)).seen.verdict) (omega (arith, rounds_returned s j day quarter T lent)),
   λ accepted.
-      result_fits s.registration _ (evaluation_asked s j day quarter T lent (evaluation_passed s j day quarter T lent accepted)).0
+      result_fits s.registration _ (evaluation_asked s j (record { day = day; quarter = quarter; until = T }) lent (evaluation_passed s j day quarter T lent accepted)).0
       (result_returned s j day quarter T lent accepted),
 )

@@ -16,7 +16,7 @@ answered_by_lines s j byte bytes = rw (lines_first byte bytes)
 
 pub shared_from_events : SharedFromEvents
 unfolding share
-shared_from_events input e = rw (e, events_left input)
+shared_from_events input r e = rw (e, events_left input)
 
 pub answers_fit : AnswersFit
 unfolding reply_to
@@ -24,7 +24,7 @@ answers_fit s j line = reply_fits s j (event_in line) (call_of (event_in line))
 
 pub prints_its_calls : PrintsItsCalls
 unfolding share
-prints_its_calls input e = rw e (printed_from _ _ _ _ refl)
+prints_its_calls input r e = rw e (printed_from _ _ _ _ refl)
 
 pub numbers_fit : NumbersFit
 numbers_fit = call_fits

@@ -1,5 +1,4 @@
 pub mod Cutting
-pub mod Walking
 pub mod Opening
 pub mod Fitting
 pub mod Answering

@@ -22,7 +22,7 @@ seen_from s j calls = run look next (record { service = s; journal = j }) calls
 
 module _ (r : Registration) (lines : List (List ℕ))
     (later : (s : Service) (j : List ℕ) → s.registration ≡ r → answers_to s j lines ≡ printed r lines (seen_from s j (calls_in lines)))
-    (s : Service) (j : List ℕ) (e : s.registration ≡ r) (event : Event) where
+    (s : Service) (j : List ℕ) (e : s.registration ≡ r) (event : Option Event) where
   -- one line and the later ones, by the call that it asks for
   one_line : (o : Option Call)
       → (reply_with s j event o).bytes ++ answers_to (reply_with s j event o).service (reply_with s j event o).journal lines

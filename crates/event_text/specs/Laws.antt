@@ -1,7 +1,6 @@
 -- What joins the code's functions to the definition of `share`, `share` to demand 3, and its numbers to their columns, as statements; `proofs/Laws.antt`
 -- proves each. Assumes nothing.
-use Rattle.std.specs.Prelude.{ℕ, ◌+◌, ◌≤◌, ◌<◌, ◌≡◌, true, List, [], ◌∷◌, ◌++◌, length, get_or, replicate, drop, Option, None, Some}
-use Rattle.answers.specs.declared.Verdict.TheVariants.{Accepted}
+use Rattle.std.specs.Prelude.{ℕ, ◌+◌, ◌≤◌, ◌<◌, ◌≡◌, true, List, [], ◌∷◌, ◌++◌, length, get_or, replicate, Option, None, Some, Ok}
 use Rattle.answers.specs.Numbers.{answer_of}
 use Rattle.columns.specs.Fields.{fitting}
 use Rattle.lines.specs.Line.{first_line, after_line}
@@ -11,15 +10,14 @@ use Rattle.registration.specs.Pairs.{pairs_before}
 use Rattle.evaluation.specs.Layout.{Withdrawals, Supplies, Origins, length_of, begin_of}
 use Rattle.service.specs.declared.Service.{Service}
 use Rattle.service.specs.Call.{Call, Submission, Clear, Evaluation, Seen}
-use Rattle.service.specs.Record.{call_on}
+use Rattle.service.specs.Record.{fresh_service, call_on}
 use Rattle.demand3.specs.Demand3.{seen_of}
 use Rattle.event_reader.specs.declared.Event.{Event}
 use Rattle.event_reader.specs.Events.{event_in}
 use Rattle.event_writer.specs.Answers.{widths_a, widths_r, widths_s, widths_of_remaining, widths_w}
 use Rattle.event_calls.specs.Replies.{call_of, call_text, refusal_text, reply_to}
-use Rattle.event_text.specs.Share.{lines_of, events_in, registration_of, answers_to, journal_numbers, opening_verdict, share}
+use Rattle.event_text.specs.Share.{lines_of, events_in, events_text, answers_to, journal_numbers, opening_of, share}
 use Rattle.event_calls.specs.Promises.{answer_most}
-use Rattle.event_text.specs.Promises.{opened_of}
 
 -- ---- the program's loop
 
@@ -34,8 +32,8 @@ AnsweredByLines =
 -- what is written for an accepted registration are the answers to the text from where its events begin
 abbrev pub SharedFromEvents : Type 0
 SharedFromEvents =
-    (input : List ℕ) → opening_verdict input ≡ Accepted
-    → share input ≡ answers_to (opened_of input).service (replicate journal_numbers 0) (lines_of (drop (opened_of input).events input))
+    (input : List ℕ) (r : Registration) → opening_of input ≡ Ok r
+    → share input ≡ answers_to (fresh_service r) (replicate journal_numbers 0) (lines_of (events_text input))
 
 -- no answer is longer than a buffer that is not refused
 abbrev pub AnswersFit : Type 0
@@ -54,7 +52,7 @@ calls_in [] = []
 calls_in (line ∷ lines) = with_call (call_of (event_in line)) (calls_in lines)
 
 -- the answer to a line: from what is seen of the first of these calls, if it asks for one
-abbrev pub line_text : Registration → Event → Option Call → List Seen → List ℕ
+abbrev pub line_text : Registration → Option Event → Option Call → List Seen → List ℕ
 line_text r event None seen = refusal_text event
 line_text r event (Some call) [] = []
 line_text r event (Some call) (a ∷ seen) = call_text r call a
@@ -74,9 +72,8 @@ printed r (line ∷ lines) seen =
 -- what `share` gives is what demand 3 speaks of: the answers of its calls, made on a fresh service in turn
 abbrev pub PrintsItsCalls : Type 0
 PrintsItsCalls =
-    (input : List ℕ) → opening_verdict input ≡ Accepted
-    → let r = (registration_of input).registration in
-    let lines = events_in (lines_of input) in
+    (input : List ℕ) (r : Registration) → opening_of input ≡ Ok r
+    → let lines = events_in (lines_of input) in
     share input ≡ printed r lines (seen_of r (replicate journal_numbers 0) (calls_in lines))
 
 -- ---- the columns of the answers
@@ -97,7 +94,7 @@ abbrev pub CallFits : Registration → Call → Seen → Type 0
 CallFits r (Submission clock m) seen = fitting widths_a (answer_of seen.verdict ∷ seen.number ∷ []) ≡ true
 CallFits r (Clear day stamp) seen = fitting widths_a (answer_of seen.verdict ∷ seen.number ∷ []) ≡ true
 CallFits r (Evaluation day quarter T lent) seen =
-    (fitting widths_r (answer_of seen.verdict ∷ seen.number ∷ []) ≡ true) × (seen.verdict ≡ Accepted → ResultFits r seen.result)
+    (fitting widths_r (answer_of seen.verdict ∷ seen.number ∷ []) ≡ true) × (seen.verdict ≡ Ok tt → ResultFits r seen.result)
 
 -- no number of an answer is too large for its column, whatever the record, the journal of the program's size and the call
 abbrev pub NumbersFit : Type 0

@@ -1,11 +1,10 @@
 -- Program `share`, from the bytes of its input to the bytes of its output. Assumes nothing.
-use Rattle.std.specs.Prelude.{ℕ, Bool, cond, ◌||◌, List, [], ◌∷◌, ◌++◌, length, replicate, ltb, eqb}
+use Rattle.std.specs.Prelude.{ℕ, Bool, cond, ◌||◌, List, [], ◌∷◌, ◌++◌, length, drop, replicate, ltb, eqb, Result, Ok, Err}
 use Rattle.answers.specs.declared.Refusal.TheVariants.{NotInColumns}
-use Rattle.answers.specs.declared.Verdict.{Verdict}
-use Rattle.answers.specs.declared.Verdict.TheVariants.{Accepted, Refused}
+use Rattle.answers.specs.declared.Refusal.{Refusal}
 use Rattle.answers.specs.Numbers.{number_of}
 use Rattle.answers.specs.Order.{refuse◌if◌else◌}
-use Rattle.registration_text.specs.declared.Answer.{Answer}
+use Rattle.registration.specs.declared.Registration.{Registration}
 use Rattle.registration_text.specs.Reader.{read_text}
 use Rattle.service.specs.declared.Service.{Service}
 use Rattle.service.specs.Record.{fresh_service}
@@ -39,6 +38,10 @@ unfoldable pub events_in : List (List ℕ) → List (List ℕ)
 events_in [] = []
 events_in (line ∷ lines) = cond (is_event line) (line ∷ lines) (events_in lines)
 
+-- the text from the first event on
+abbrev pub events_text : List ℕ → List ℕ
+events_text input = drop (length (registration_in (lines_of input))) input
+
 -- ---- the program
 
 -- the most bytes that are read
@@ -55,21 +58,20 @@ answers_to s j [] = []
 answers_to s j (line ∷ lines) = (reply_to s j line).bytes ++ answers_to (reply_to s j line).service (reply_to s j line).journal lines
 
 -- the registration of an input, read
-abbrev pub registration_of : List ℕ → Answer
+abbrev pub registration_of : List ℕ → Result Registration Refusal
 registration_of input = read_text (registration_in (lines_of input))
 
--- whether the events of an input are answered: 1 for too many bytes, then what the registration is refused for
-unfoldable pub opening_verdict : List ℕ → Verdict
-opening_verdict input =
+-- the registration for which the events of an input are answered: refused by 1 for too many bytes, then by what the registration is refused for
+unfoldable pub opening_of : List ℕ → Result Registration Refusal
+opening_of input =
     refuse NotInColumns if ltb input_most (length input) else
-    (registration_of input).verdict
+    registration_of input
 
 -- a refused registration prints its answer and ends; otherwise the events are answered by a fresh service with an empty journal
-abbrev pub share_if : Verdict → List ℕ → List ℕ
-share_if (Refused refusal) input = line_a (number_of refusal) 0
-share_if Accepted input =
-    answers_to (fresh_service (registration_of input).registration) (replicate journal_numbers 0) (events_in (lines_of input))
+abbrev pub share_if : Result Registration Refusal → List ℕ → List ℕ
+share_if (Err refusal) input = line_a (number_of refusal) 0
+share_if (Ok r) input = answers_to (fresh_service r) (replicate journal_numbers 0) (events_in (lines_of input))
 
 -- what the program writes for what it reads
 unfoldable pub share : List ℕ → List ℕ
-share input = share_if (opening_verdict input) input
+share input = share_if (opening_of input) input

@@ -9,3 +9,4 @@ pub mod Cores
 pub mod Evaluating
 pub mod Others
 pub mod Cases
+pub mod Answered

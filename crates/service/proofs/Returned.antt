@@ -28,7 +28,6 @@ use Rattle.service.specs.Record.{group_of, call_on}
 use Rattle.group.proofs.Admitted.{admitted, clearing, evaluating}
 use Rattle.service.proofs.ReadAgain.{through}
 
-
 -- what is shown as of T has a stamp of at most T
 stamp_shown : (T : ℕ) (rs : List Reading) (o : Option Reading) → ShowsNewest T rs o → stamp_of o ≤ T
 stamp_shown T rs None k = omega arith

@@ -21,7 +21,7 @@ use Rattle.journal.specs.Entries.{day_in, readings_at, kept, keep}
 use Rattle.journal.specs.Damage.{entry_right}
 use Rattle.journal.proofs.PlaceLaws.{point_in_place, day_in_place, quarter_in_place}
 use Rattle.journal.proofs.Kept.{length_keep}
-use Rattle.journal.proofs.Entries.{right_snoc, right_those}
+use Rattle.journal.proofs.RightEntries.{right_snoc, right_those}
 use Rattle.points.specs.Points.{index_of}
 use Rattle.group.specs.Group.{Group, roll_of}
 use Rattle.service.specs.Call.{Call, Submission, Clear, Evaluation, After}

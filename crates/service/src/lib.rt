@@ -113,7 +113,12 @@ impl Service {
 
     // The evaluation of a quarter hour as of a stamp: the result list gets pair shares, remaining withdrawals, remaining supplies, and the origin of each
     // value. Returns the round count.
-    pub fn evaluate(&self, journal: &[u64], asked: Asked, list: &mut [u64]) -> Result<usize, Refusal>
+    pub fn evaluate(
+        &self,
+        journal: &[u64],
+        asked: Asked,
+        list: &mut [u64],
+    ) -> Result<usize, Refusal>
         ensures { Evaluates self.now journal.now asked list.old result list.new }
     {
         self.group(journal).evaluation_verdict(asked, list)?;

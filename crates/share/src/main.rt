@@ -1,13 +1,10 @@
 // Reads a registration and lines of events from standard input, and writes the answer to each line to standard output.
 #![tactic(auto)]
 
-ghost use Rattle.std.specs.Prelude.{◌≡◌, ◌≤◌, ◌<◌, length, take, IfOk, OnOk, IfSome};
+ghost use Rattle.std.specs.Prelude.{◌≡◌, ◌≤◌, ◌<◌, length, take, replicate, IfOk, OnOk, IfSome};
 ghost use Rattle.std.specs.Io.KnownBytes.{Appends, Consumes, IsAtEnd};
-ghost use Rattle.answers.specs.declared.Verdict.TheVariants.{Accepted as AcceptedInput};
-ghost use Rattle.event_text.specs.Promises.{opened_of};
-ghost use Rattle.event_text.specs.Share.{share};
+ghost use Rattle.event_text.specs.Share.{lines_of, answers_to, journal_numbers, share};
 
-use answers::Verdict;
 use event_text::Opened;
 use std::io;
 use std::io::{Read, Write};
@@ -33,22 +30,18 @@ fn read_full<R: Read>(reader: &mut R, space: &mut [u8]) -> io::Result<usize>
 }
 
 // Answers the lines of an input one after the other, each by record and journal as the one before left them.
-fn answer_lines<W: Write>(writer: &mut W, input: &[u8], opened: Opened) -> io::Result<()>
-    requires { (opened ≡ opened_of input.now) × (opened.verdict ≡ AcceptedInput) }
-    ensures { OnOk result (Appends (W.contents writer.old) (W.contents writer.new) (share input.now)) }
+fn answer_lines<W: Write>(writer: &mut W, opened: Opened) -> io::Result<()>
+    ensures { OnOk result (Appends (W.contents writer.old) (W.contents writer.new) (answers_to opened.entry.service (replicate journal_numbers 0) (lines_of opened.entry.events.now))) }
 {
+    let Opened { mut service, events } = opened;
     let mut journal = [0; JOURNAL_NUMBERS];
     let mut out = [0; event_text::ANSWER_MOST];
-    let mut service = opened.service;
-    let mut at = opened.events;
-    while at < input.len() {
-        let end = event_text::line_end(input, at);
-        let answered = event_text::answer(service, &mut journal, &input[at..end], &mut out);
-        let bytes = answered.bytes;
+    let mut rest = events;
+    while !rest.is_empty() {
+        let (line, later) = lines::split_line(rest);
+        let bytes = event_text::answer(&mut service, &mut journal, line, &mut out).unwrap();
         writer.write_all(&out[..bytes])?;
-        let state = answered.state;
-        service.state = state;
-        at = end;
+        rest = later;
     }
     Ok(())
 }
@@ -60,13 +53,10 @@ fn run<R: Read, W: Write>(reader: &mut R, writer: &mut W) -> io::Result<()>
     let mut space = [0; event_text::INPUT_MOST + 1];
     let count = read_full(reader, &mut space)?;
     let input = &space[..count];
-    let opened = event_text::open(input);
-    let verdict = opened.verdict;
-    if let Verdict::Refused(refusal) = verdict {
-        let line = event_text::refusal_line(refusal);
-        return writer.write_all(&line);
+    match event_text::open(input) {
+        Ok(opened) => answer_lines(writer, opened),
+        Err(refusal) => writer.write_all(&event_text::refusal_line(refusal)),
     }
-    answer_lines(writer, input, opened)
 }
 
 fn main(rt: HostRuntime) -> io::Result<()> {

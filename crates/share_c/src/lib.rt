@@ -5,13 +5,12 @@ ghost use Rattle.std.specs.Prelude.{◌≡◌};
 ghost use Rattle.calendar.specs.Dates.{day_of, date_of};
 ghost use Rattle.calendar.specs.Quarters.{quarters_of};
 ghost use Rattle.calendar.specs.Changeovers.{changeover_at};
-ghost use Rattle.service.specs.Record.{with_state};
 ghost use Rattle.share_c.specs.Promises.{read_answer, WriteLeaves, fresh_answer, SubmitLeaves, ClearLeaves, EvaluateLeaves, day_answer};
 
 use answers::Refusal;
-use calendar::Day;
+use lookup::Asked;
 use registration::Registration;
-use service::{Service, State};
+use service::Service;
 use values::Measurement;
 
 // The answer of `share_read`: the registration, zeros where it is refused.
@@ -70,32 +69,15 @@ pub struct Dated {
     pub day: u64,
 }
 
-// A submission on a record by value: the record's changing part after it, and the answer.
-#[derive(Clone, Copy)]
-pub struct SubmitStep {
-    pub state: State,
-    pub submitted: Submitted,
-}
-
-// A clear on a record by value: the record's changing part after it, and the answer.
-#[derive(Clone, Copy)]
-pub struct ClearStep {
-    pub state: State,
-    pub cleared: Cleared,
-}
-
 // Reads a registration from its text.
 #[unsafe(no_mangle)]
 pub extern "C" fn share_read(text: &[u8]) -> Read
     ensures { result ≡ read_answer text.now }
 {
     let read = registration_reader::read(text);
-    let verdict = read.verdict;
-    let answer = verdict.answer();
-    let registration = read.registration;
     Read {
-        answer,
-        registration,
+        answer: answers::answer(&read),
+        registration: read.unwrap_or(Registration::empty()),
     }
 }
 
@@ -104,11 +86,11 @@ pub extern "C" fn share_read(text: &[u8]) -> Read
 pub extern "C" fn share_write(registration: Registration, out: &mut [u8]) -> Written
     ensures { WriteLeaves registration out.old out.new result }
 {
-    let written = registration_writer::write(registration, out);
-    let verdict = written.verdict;
-    let answer = verdict.answer();
-    let bytes = written.bytes;
-    Written { answer, bytes }
+    let written = registration_writer::write(&registration, out);
+    Written {
+        answer: answers::answer(&written),
+        bytes: written.unwrap_or(0),
+    }
 }
 
 // A service made from a registration alone.
@@ -117,30 +99,9 @@ pub extern "C" fn share_fresh(registration: Registration) -> Fresh
     ensures { result ≡ fresh_answer registration }
 {
     let fresh = Service::fresh(registration);
-    let verdict = fresh.verdict;
-    let answer = verdict.answer();
-    let service = fresh.service;
-    Fresh { answer, service }
-}
-
-// A submission on a record by value, with its answer as numbers.
-fn submit_value(
-    service: Service,
-    journal: &mut [u64],
-    clock: u64,
-    measurement: Measurement,
-) -> SubmitStep
-    ensures { SubmitLeaves service journal.old clock measurement (with_state service result.state) result.submitted journal.new }
-{
-    let done = service.submit(journal, clock, measurement);
-    let state = done.state;
-    let given = done.submitted;
-    let verdict = given.verdict;
-    let answer = verdict.answer();
-    let stamp = given.stamp;
-    SubmitStep {
-        state,
-        submitted: Submitted { answer, stamp },
+    Fresh {
+        answer: answers::answer(&fresh),
+        service: fresh.unwrap_or(Service::empty()),
     }
 }
 
@@ -154,24 +115,10 @@ pub extern "C" fn share_submit(
 ) -> Submitted
     ensures { SubmitLeaves service.old journal.old clock measurement service.new result journal.new }
 {
-    let done = submit_value(*service, journal, clock, measurement);
-    service.state = done.state;
-    done.submitted
-}
-
-// A clear on a record by value, with its answer as numbers.
-fn clear_value(service: Service, journal: &mut [u64], day: u64, stamp: u64) -> ClearStep
-    ensures { ClearLeaves service journal.old day stamp (with_state service result.state) result.cleared journal.new }
-{
-    let done = service.clear(journal, day, stamp);
-    let state = done.state;
-    let given = done.cleared;
-    let verdict = given.verdict;
-    let answer = verdict.answer();
-    let dropped = given.dropped;
-    ClearStep {
-        state,
-        cleared: Cleared { answer, dropped },
+    let submitted = service.submit(journal, clock, measurement);
+    Submitted {
+        answer: answers::answer(&submitted),
+        stamp: submitted.unwrap_or(0),
     }
 }
 
@@ -185,9 +132,11 @@ pub extern "C" fn share_clear(
 ) -> Cleared
     ensures { ClearLeaves service.old journal.old day stamp service.new result journal.new }
 {
-    let done = clear_value(*service, journal, day, stamp);
-    service.state = done.state;
-    done.cleared
+    let cleared = service.clear(journal, day, stamp);
+    Cleared {
+        answer: answers::answer(&cleared),
+        dropped: cleared.unwrap_or(0),
+    }
 }
 
 // The evaluation of a quarter hour as of a stamp.
@@ -202,23 +151,26 @@ pub extern "C" fn share_evaluate(
 ) -> Evaluated
     ensures { EvaluateLeaves service journal.now day quarter until list.old result list.new }
 {
-    let evaluated = service.evaluate(journal, day, quarter, until, list);
-    let verdict = evaluated.verdict;
-    let answer = verdict.answer();
-    let rounds = evaluated.rounds;
-    Evaluated { answer, rounds }
+    let asked = Asked {
+        day,
+        quarter,
+        until,
+    };
+    let evaluated = service.evaluate(journal, asked, list);
+    Evaluated {
+        answer: answers::answer(&evaluated),
+        rounds: evaluated.unwrap_or(0),
+    }
 }
 
 // A day with its answer as a number: 9 and 0 where there is none.
-fn day_answer(found: Day) -> Dated
+fn day_answer(found: Option<u64>) -> Dated
     ensures { result ≡ day_answer found }
 {
-    match found {
-        Day::Is(day) => Dated { answer: 0, day },
-        Day::Missing => {
-            let answer = Refusal::NoSuchDay.number();
-            Dated { answer, day: 0 }
-        }
+    let day = found.ok_or(Refusal::NoSuchDay);
+    Dated {
+        answer: answers::answer(&day),
+        day: day.unwrap_or(0),
     }
 }
 
@@ -243,7 +195,7 @@ pub extern "C" fn share_changeover(place: u64) -> Dated
 pub extern "C" fn share_date(day: u64) -> u64
     ensures { result ≡ date_of day }
 {
-    calendar::date_of(day)
+    calendar::date_of(day).unwrap_or(0)
 }
 
 // How many quarter hours a day has, 0 where the calendar has no such day.

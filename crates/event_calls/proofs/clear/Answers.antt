@@ -1,18 +1,23 @@
 -- `event_calls::clear` meets its contract. Assumes nothing.
-use Prim.Native.Nat.{ℕ}
+use Rattle.std.proofs.Common.{ℕ, sym, ◌∙◌}
+use Rattle.std.proofs.lemmas.Result.{err_from_is_err_and}
 use Rattle.service.specs.Call.{Clear as ClearUp}
-use Rattle.event_reader.specs.declared.Event.TheVariants.{Clear}
-use Rattle.event_calls.proofs.Replying.{no_call_lem, replies_refusal, replies_clear}
+use Rattle.event_calls.proofs.Replying.{day_missing, day_there, calls_none, calls_clear}
 use Rattle.event_calls.proofs.clear.Goals as goal
 
-pub returns-in_default : goal.returns-in_default
-returns-in_default c =
-    let a = c.args in
-    let none = no_call_lem a.date (λ (day : ℕ). ClearUp day a.stamp) c.day_of.ensures c.in_default.is in
-    replies_refusal _ _ (Clear a.date a.stamp) none c.no_call.ensures.0 c.no_call.ensures.1
+pub returns-in_err-day : goal.returns-in_err-day
+returns-in_err-day c =
+    let t = day_missing _ _ c.in_err-day.field-0.0 (sym c.in_err-day.was ∙ c.ok_or.ensures.value) in
+    let p = err_from_is_err_and c.from_residual.result c.from_residual.ensures.1 in
+    rw (p.1, p.2, t.1) (calls_none _ _ c.args.date (λ (day : ℕ). ClearUp day c.args.stamp) (sym c.day_of.ensures ∙ t.0))
+
+pub returns-in_err-dropped : goal.returns-in_err-dropped
+returns-in_err-dropped c =
+    let day = day_there _ c.in_ok-day.day _ (sym c.in_ok-day.was ∙ c.ok_or.ensures.value) in
+    let p = err_from_is_err_and c.from_residual-in_err-dropped.result c.from_residual-in_err-dropped.ensures.1 in
+    rw (p.1, p.2) (calls_clear _ _ c.args.date _ (sym c.day_of.ensures ∙ day) _ _ _ _ c.in_err-dropped.ensures)
 
 pub returns : goal.returns
 returns c =
-    let a = c.args in
-    replies_clear _ _ a.date c.day_of.ensures c.in-Is.is _ _ _ c.clear-step.ensures
-    c.answer.ensures c.put_answer-bytes.ensures c.with_bytes.ensures
+    let day = day_there _ c.in_ok-day.day _ (sym c.in_ok-day.was ∙ c.ok_or.ensures.value) in
+    calls_clear _ _ c.args.date _ (sym c.day_of.ensures ∙ day) _ _ _ _ c.in_ok-dropped.ensures

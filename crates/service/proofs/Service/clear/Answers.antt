@@ -1,5 +1,5 @@
 -- `service::Service::clear` meets its contract. Assumes nothing.
-use Rattle.std.proofs.Common.{arith, ◌≡◌, refl, sym, ◌∙◌, Ok, Err}
+use Rattle.std.proofs.Common.{arith, ◌≡◌, sym, Ok}
 use Rattle.std.proofs.lemmas.Result.{err_from_is_err_and}
 use Rattle.journal.proofs.Stored.{length_entries}
 use Rattle.journal.specs.Stored.{entries}
@@ -20,13 +20,13 @@ returns-in_err-clear_verdict c =
 accepted : (c : In_ok-clear_verdict) → clear_verdict c.args.self.now.state.last (group_of c.args.self.now c.args.journal.now) c.args.day c.args.stamp ≡ Ok tt
 accepted c = rw (c.group.ensures.0, c.group.ensures.1) at (sym c.in_ok-clear_verdict.ensures)
 
-pub overflow_add-points : goal.overflow_add-points
-overflow_add-points c = omega (arith, few_points _ _ (clear_sound _ _ _ _ (accepted (goal.at.overflow_add-points c).In_ok-clear_verdict)))
+pub points-points-requires : goal.points-points-requires
+points-points-requires c = few_points _ _ (clear_sound _ _ _ _ (accepted (goal.at.points-points-requires c).In_ok-clear_verdict))
 
 pub keep-entries-requires : goal.keep-entries-requires
 keep-entries-requires c =
     let s = clear_sound _ _ _ _ (accepted (goal.at.keep-entries-requires c).In_ok-clear_verdict) in
-    (fits_of _ _ _ s, right_for _ _ (few_points _ _ s) s)
+    (fits_of _ _ _ s, rw c.points-points.ensures (right_for _ _ (few_points _ _ s) s))
 
 pub overflow_sub-result : goal.overflow_sub-result
 overflow_sub-result c =

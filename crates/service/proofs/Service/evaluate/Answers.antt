@@ -1,5 +1,5 @@
 -- `service::Service::evaluate` meets its contract. Assumes nothing.
-use Rattle.std.proofs.Common.{◌≡◌, sym, Ok, Err}
+use Rattle.std.proofs.Common.{◌≡◌, sym, Ok}
 use Rattle.std.proofs.lemmas.Result.{err_from_is_err_and}
 use Rattle.group.specs.Refusals.{evaluation_verdict}
 use Rattle.service.specs.Record.{group_of}
@@ -17,8 +17,13 @@ accepted : (c : In_ok-evaluation_verdict) → let a = c.args in
     evaluation_verdict a.self.now.state.last (group_of a.self.now a.journal.now) a.asked.day a.asked.quarter a.asked.until a.list.now ≡ Ok tt
 accepted c = rw (c.group.ensures.0, c.group.ensures.1) at (sym c.in_ok-evaluation_verdict.ensures)
 
-pub evaluate-requires : goal.evaluate-requires
-evaluate-requires c = evaluation_asked _ _ _ _ (accepted (goal.at.evaluate-requires c).In_ok-evaluation_verdict)
+pub entries-entries-requires : goal.entries-entries-requires
+entries-entries-requires c = (evaluation_asked _ _ _ _ (accepted (goal.at.entries-entries-requires c).In_ok-evaluation_verdict)).2
+
+pub evaluate-rounds-requires : goal.evaluate-rounds-requires
+evaluate-rounds-requires c =
+    let asked = evaluation_asked _ _ _ _ (accepted (goal.at.evaluate-rounds-requires c).In_ok-evaluation_verdict) in
+    (asked.0, asked.1, rw c.entries-entries.ensures asked.3, asked.4)
 
 pub returns : goal.returns
-returns c = evaluates_accepted _ _ _ _ (accepted (goal.at.returns c).In_ok-evaluation_verdict) _ _ c.evaluate.ensures
+returns c = evaluates_accepted _ _ _ _ (accepted (goal.at.returns c).In_ok-evaluation_verdict) _ _ (rw c.entries-entries.ensures at c.evaluate-rounds.ensures)

@@ -1,10 +1,7 @@
 -- `service::Service::submit` meets its contract. Assumes nothing.
-use Rattle.std.proofs.Common.{arith, ◌≡◌, refl, sym, ap, ◌∙◌, ℕ, List, Ok, Err, Result}
+use Rattle.std.proofs.Common.{arith, ◌≡◌, sym, ◌∙◌, Ok}
 use Rattle.std.proofs.lemmas.Result.{err_from_is_err_and}
-use Rattle.answers.specs.declared.Refusal.{Refusal}
-use Rattle.std.specs.Result.{result_and}
 use Rattle.answers.proofs.Values.{refused_told, given_told}
-use Rattle.group.specs.declared.Looked.{Looked}
 use Rattle.group.specs.Refusals.{submission_verdict}
 use Rattle.group.specs.Working.{looked_of}
 use Rattle.group.proofs.Looking.{repeat_told, new_told, look_same}
@@ -35,19 +32,19 @@ pub put-requires : goal.put-requires
 put-requires c =
     let a = c.args in
     let v = accepted (goal.at.put-requires c).In_ok-stamp in
-    let t = new_told a.self.now.state.last (group_of a.self.now a.journal.now) a.clock a.measurement c.in-New.stamp c.in-New.place c.in-New.stored (sym c.in-New.is ∙ v.1) in
+    let t = new_told a.self.now.state.last (group_of a.self.now a.journal.now) a.clock a.measurement c.in-New.entry (sym c.in-New.is ∙ v.1) in
     new_fits _ _ _ _ v.0 t.0
 
 pub overflow_add-self : goal.overflow_add-self
 overflow_add-self c =
     let a = c.args in
     let v = accepted (goal.at.overflow_add-self c).In_ok-stamp in
-    let t = new_told a.self.now.state.last (group_of a.self.now a.journal.now) a.clock a.measurement c.in-New.stamp c.in-New.place c.in-New.stored (sym c.in-New.is ∙ v.1) in
+    let t = new_told a.self.now.state.last (group_of a.self.now a.journal.now) a.clock a.measurement c.in-New.entry (sym c.in-New.is ∙ v.1) in
     omega (arith, new_fits _ _ _ _ v.0 t.0)
 
 pub returns-in-New : goal.returns-in-New
 returns-in-New c =
     let a = c.args in
     let v = accepted (goal.at.returns-in-New c).In_ok-stamp in
-    let t = new_told a.self.now.state.last (group_of a.self.now a.journal.now) a.clock a.measurement c.in-New.stamp c.in-New.place c.in-New.stored (sym c.in-New.is ∙ v.1) in
-    submits_new _ _ _ _ v.0 t.0 _ (record { stamp = c.in-New.stamp; place = c.in-New.place; stored = c.in-New.stored }) (rw (t.1, t.2, t.3) refl) c.put.ensures
+    let t = new_told a.self.now.state.last (group_of a.self.now a.journal.now) a.clock a.measurement c.in-New.entry (sym c.in-New.is ∙ v.1) in
+    submits_new _ _ _ _ v.0 t.0 _ c.in-New.entry t.1 c.put.ensures
