@@ -90,17 +90,6 @@ fn begins_well(column: &[u8]) -> bool
     column.len() <= WIDEST && column.first() == Some(&SPACE)
 }
 
-// Whether a column is what is written of a value.
-#[tactic(auto, using(crate::proofs::Judged::written_places))]
-fn is_written(column: &[u8], minus: bool, value: u64) -> bool
-    requires { length column.now ≤ widest }
-    ensures { result ≡ same_bytes (column_of minus (length column.now) value) column.now }
-{
-    let mut places = [0; WIDEST];
-    write_column(&mut places[..column.len()], minus, value);
-    &places[..column.len()] == column
-}
-
 // The number that a column's digits make, if the column is what is written of it, with or without a minus.
 fn read_digits(column: &[u8], minus: bool) -> Option<u64>
     ensures { result ≡ number_if (is_column minus column.now) (value_from 0 column.now) }
@@ -109,7 +98,10 @@ fn read_digits(column: &[u8], minus: bool) -> Option<u64>
         return None;
     }
     let value = value_of(column);
-    is_written(column, minus, value).then_some(value)
+    let mut places = [0; WIDEST];
+    write_column(&mut places[..column.len()], minus, value);
+    let written = &places[..column.len()] == column;
+    written.then_some(value)
 }
 
 // The number in a column.
