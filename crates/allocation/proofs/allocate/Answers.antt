@@ -12,8 +12,8 @@ use Rattle.allocation.proofs.allocate.Goals as goal
 pub loop-init : goal.loop-init
 loop-init c = rounded_none _ _ _ _ (search rules) (length-replicate {A = ℕ} 320 0) (zeros 320)
 
-pub make_round-left-requires : goal.make_round-left-requires
-make_round-left-requires c =
+pub make_round-requires : goal.make_round-requires
+make_round-requires c =
     let p = c.requires in
     let t = c.loop.invariant in
     (p.0, still_magnitudes p.0 p.1 t, still_within p.0 p.1 t)
@@ -21,7 +21,7 @@ make_round-left-requires c =
 pub loop-preserved : goal.loop-preserved
 loop-preserved c =
     let p = c.requires in
-    rounded_next p.0 p.1 c.loop.invariant (omega arith) (search rules) c.make_round-left.array_long c.make_round-left.ensures
+    rounded_next p.0 p.1 c.loop.invariant (omega arith) (search rules) (search rules) c.make_round.ensures
 
 pub returns : goal.returns
 returns c =

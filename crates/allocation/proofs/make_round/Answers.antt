@@ -46,17 +46,17 @@ right c =
 
 -- and the share is the definition's
 share : (c : After-share_of-share) → let r = c.args.registration.now in
-    c.share_of-share.result ≡ share_for r.counts r.sources r.keys c.args.start.now r.producers r.consumers c.loop-consumer.consumer c.loop-priority.priority
+    c.share_of-share.result ≡ share_for r.counts r.sources r.keys c.args.left.now r.producers r.consumers c.loop-consumer.consumer c.loop-priority.priority
 share c =
     share_here _ _ _ c.loop-priority.invariant.withdrawal
     (c.share_of-share.ensures
-    ∙ ap (λ (pair : Pair). share_of c.loop-priority.withdrawal (offer_of pair.key (get_or c.args.start.now (pair.source - 1) 0))) c.pair-pair.ensures)
+    ∙ ap (λ (pair : Pair). share_of c.loop-priority.withdrawal (offer_of pair.key (get_or c.args.left.now (pair.source - 1) 0))) c.pair-pair.ensures)
 
 pub loop-consumer-init : goal.loop-consumer-init
 loop-consumer-init c =
     record {
       few = few_points c.requires.0;
-      fallen = fallen_same _ _ _ _ _ _ (fallen_none _ _ _ _ _ _ c.told-start) (λ k h. passed_none c.args.registration.now.counts k);
+      fallen = fallen_same _ _ _ _ _ _ (fallen_none _ _ _ _ _ _ c.told-left) (λ k h. passed_none c.args.registration.now.counts k);
       given = given_none _ _ _ _ _ _ _;
     }
 
@@ -91,7 +91,7 @@ bounds-left-producer-in-loop-priority c =
 pub overflow_sub-left : goal.overflow_sub-left
 overflow_sub-left c =
     let at = goal.at.overflow_sub-left c in
-    let taken = step c.args.registration.now c.args.start.now _ _ c.requires.0 c.loop-consumer-test.true (one_of at.After-pair-pair) in
+    let taken = step c.args.registration.now c.args.left.now _ _ c.requires.0 c.loop-consumer-test.true (one_of at.After-pair-pair) in
     rw (c.pair-pair.ensures, share at.After-share_of-share) (share_within _ _ _ _ _ _ c.loop-priority.invariant.fallen taken)
 
 pub overflow_add-shares-in-loop-priority : goal.overflow_add-shares-in-loop-priority
@@ -110,7 +110,7 @@ pub loop-priority-preserved : goal.loop-priority-preserved
 loop-priority-preserved c =
     let at = goal.at.loop-priority-preserved c in
     let inv = c.loop-priority.invariant in
-    let taken = step c.args.registration.now c.args.start.now _ _ c.requires.0 c.loop-consumer-test.true (one_of at.After-pair-pair) in
+    let taken = step c.args.registration.now c.args.left.now _ _ c.requires.0 c.loop-consumer-test.true (one_of at.After-pair-pair) in
     let before = c.loop-consumer.invariant.given.size ∙ c.told-shares in
     let given = share at.After-share_of-share in
     rw c.pair-pair.ensures (record {
