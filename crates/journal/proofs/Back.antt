@@ -1,7 +1,7 @@
 -- From the last entry back: the first entry met that shows is what is shown, since the stamps rise; one that does not show does not matter. Assumes nothing.
-use Prim.Native.Nat.{ℕ, zero, suc, ◌+◌, ◌*◌, ◌≤◌, ◌<◌}
+use Prim.Native.Nat.{ℕ, ◌≤◌, ◌<◌}
 use native.Mathlib.Omega.{arith}
-use mathlib.Core.Path.{◌≡◌, refl, ◌∙◌}
+use mathlib.Core.Path.{◌≡◌, ◌∙◌}
 use mathlib.Core.Bool.{true, false, ◌&&◌}
 use mathlib.Core.List.{List, [], ◌∷◌, ◌++◌, append-nil}
 use Rattle.std.specs.Prelude.{Some}
@@ -13,8 +13,6 @@ use Rattle.lists.proofs.Those.{map_append}
 use Rattle.journal.specs.Found.{found}
 use Rattle.journal.specs.Stored.{entry_in, entries_in}
 use lib.Dec.{leb, eqb}
-use lib.ListN.{drop}
-use lib.Seq.{get_or-drop}
 use borrow.Author.Tests.{leb-true, leb-false, le-leb}
 use Rattle.lists.proofs.Cases.{by_test}
 use Rattle.lists.proofs.Below.{and_left, and_right}
@@ -22,29 +20,11 @@ use Rattle.journal.specs.Order.{Reading, weaker}
 use Rattle.journal.specs.Readings.{shown}
 use Rattle.journal.specs.declared.Entry.{Entry}
 use Rattle.journal.specs.Entries.{reading_of, readings_at}
-use Rattle.journal.specs.Stored.{entry_at, entries}
 use Rattle.journal.specs.Damage.{Right}
 use Rattle.journal.proofs.InTime.{within_time}
 use Rattle.journal.proofs.ShownLaws.{Rising, shown_nil, shown_late}
 use Rattle.journal.proofs.Kept.{readings_append}
 use Rattle.journal.proofs.RightEntries.{right_rising}
-
--- ---- one entry more at the end
-entry_at_drop : (j : List ℕ) (i : ℕ) → entry_at (drop 3 j) i ≡ entry_at j (suc i)
-entry_at_drop j i =
-    let a : 3 + 3 * i ≡ 3 * suc i = omega arith in
-    let b : 3 + (3 * i + 1) ≡ 3 * suc i + 1 = omega arith in
-    let c : 3 + (3 * i + 2) ≡ 3 * suc i + 2 = omega arith in
-    cc (get_or-drop 3 j (3 * i) 0, get_or-drop 3 j (3 * i + 1) 0, get_or-drop 3 j (3 * i + 2) 0)
-
-pub entries_snoc : (i : ℕ) (j : List ℕ) → entries (suc i) j ≡ entries i j ++ (entry_at j i ∷ [])
-unfolding entries
-entries_snoc zero j = refl
-entries_snoc (suc i) j = cc (entries_snoc i (drop 3 j), entry_at_drop j i)
-
-pub entries_none : (j : List ℕ) → entries 0 j ≡ []
-unfolding entries
-entries_none j = refl
 
 -- ---- the last of rising readings
 rising_front : (lo : ℕ) (rs ss : List Reading) → Rising lo (rs ++ ss) → Rising lo rs
