@@ -1,5 +1,5 @@
 -- The opening of an input: refused, or a fresh service and the text from where its events begin. Assumes nothing.
-use Rattle.std.proofs.Common.{ℕ, ◌-◌, ◌≤◌, ◌<◌, ◌≡◌, refl, sym, ap, ◌∙◌, List, length, take, false, Result, Ok, Err, arith, cc}
+use Rattle.std.proofs.Common.{ℕ, ◌-◌, ◌≤◌, ◌<◌, ◌≡◌, refl, sym, ap, ◌∙◌, List, length, take, false, Result, Ok, Err, arith}
 use borrow.Author.Tests.{lt-ltb, le-ltb}
 use Rattle.answers.specs.declared.Refusal.{Refusal}
 use Rattle.answers.specs.declared.Refusal.TheVariants.{NotInColumns}
@@ -10,7 +10,6 @@ use Rattle.registration.specs.declared.Registration.{Registration}
 use Rattle.registration.specs.Damage.{is_damaged}
 use Rattle.registration_text.specs.Reader.{read_text}
 use Rattle.registration_text.proofs.Theorems.{accepted_is_sound}
-use Rattle.service.specs.declared.Service.{Service}
 use Rattle.service.specs.Record.{fresh_service}
 use Rattle.service.specs.Promises.{fresh_of}
 use Rattle.event_writer.specs.Answers.{line_a, bytes_of_answer}
@@ -43,6 +42,10 @@ module _ (input : List ℕ) where
     made_of r e =
         let sound : is_damaged r ≡ false = accepted_is_sound (registration_in (lines_of input)) r (sym whole ∙ e) in
         rw sound
+
+    -- so a refusal of the service does not come
+    pub service_made : {A : Type 0} (r : Registration) (refusal : Refusal) → answer ≡ Ok r → Err refusal ≡ fresh_of r → A
+    service_made r refusal e f = let never : Err refusal ≡ Ok (fresh_service r) = f ∙ made_of r e in cc
 
     pub registration_opened : (r : Registration) (opened : Opened) → answer ≡ Ok r → Ok opened.service ≡ fresh_of r → opened.events.now ≡ events
         → Opens input (Ok opened)

@@ -1,23 +1,23 @@
 -- `event_text::open` meets its contract, by `Opening.antt`. Assumes nothing.
-use mathlib.Core.Path.{sym, ◌∙◌}
-use native.Mathlib.Omega.{arith}
-use lib.Seq.{length-take-le}
-use Rattle.event_text.proofs.Cutting.{registration_within}
-use Rattle.event_text.proofs.Opening.{too_long, registration_refused, registration_opened}
+use Rattle.std.proofs.Common.{refl, arith}
+use Rattle.std.proofs.lemmas.Result.{err_from_is_err_and}
+use Rattle.event_text.proofs.Opening.{too_long, registration_refused, service_made, registration_opened}
 use Rattle.event_text.proofs.open.Goals as goal
 
 pub returns-then-input-gt-INPUT_MOST : goal.returns-then-input-gt-INPUT_MOST
-returns-then-input-gt-INPUT_MOST c = c.refused.ensures ∙ too_long _ c.if-input-gt-INPUT_MOST.true
+returns-then-input-gt-INPUT_MOST c = too_long _ c.if-input-gt-INPUT_MOST.true
 
-pub slice_bounds-read-end : goal.slice_bounds-read-end
-slice_bounds-read-end c =
-    let input = c.args.input.now in
-    sym (length-take-le _ _ (omega (arith, c.events_start-events.ensures, registration_within input)))
+pub returns-in_err-registration : goal.returns-in_err-registration
+returns-in_err-registration c =
+    let p = err_from_is_err_and c.from_residual.result c.from_residual.ensures.1 in
+    rw (p.1, p.2)
+    (registration_refused _ (omega (arith, c.if-input-gt-INPUT_MOST.false)) _ c.events-events.ensures _ c.read.ensures _ c.in_err-registration.was)
 
-pub returns-in-Refused : goal.returns-in-Refused
-returns-in-Refused c =
-    c.refused-in-Refused.ensures
-    ∙ registration_refused _ (omega (arith, c.if-input-gt-INPUT_MOST.false)) _ c.events_start-events.ensures _ c.read-answer.ensures _ c.in-Refused.is
+pub returns-in_err-service : goal.returns-in_err-service
+returns-in_err-service c =
+    service_made _ (omega (arith, c.if-input-gt-INPUT_MOST.false)) _ c.events-events.ensures _ c.read.ensures _ _ c.in_ok-registration.was c.in_err-service.ensures
 
 pub returns : goal.returns
-returns c = registration_opened _ (omega (arith, c.if-input-gt-INPUT_MOST.false)) _ c.events_start-events.ensures _ c.read-answer.ensures c.in_default.is _ c.fresh-fresh.ensures
+returns c =
+    registration_opened _ (omega (arith, c.if-input-gt-INPUT_MOST.false)) _ c.events-events.ensures _ c.read.ensures c.in_ok-registration.registration _
+    c.in_ok-registration.was (c.in_ok-service.ensures) refl
