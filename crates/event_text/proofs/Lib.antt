@@ -1,5 +1,6 @@
 pub mod Cutting
 pub mod Opening
+pub mod Sharing
 pub mod Fitting
 pub mod Answering
 pub mod Printing

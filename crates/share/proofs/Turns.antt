@@ -1,5 +1,5 @@
 -- The program's loop over the lines: each turn computes the answer to one line, and at the end all are computed. Assumes nothing.
-use Rattle.std.proofs.Common.{ℕ, ◌+◌, ◌≤◌, ◌<◌, ◌≡◌, refl, sym, ap, ◌∙◌, List, [], ◌∷◌, ◌++◌, length, take, drop, append_assoc, append-nil, Result, Ok, Err, absurd, arith}
+use Rattle.std.proofs.Common.{ℕ, ◌+◌, ◌≤◌, ◌<◌, ◌≡◌, refl, sym, ap, ◌∙◌, List, [], ◌∷◌, ◌++◌, length, take, drop, append_assoc, append-nil, Result, Ok, Err, arith}
 use borrow.Author.Tests.{le-ltb}
 use lib.Seq.{take-append_seam}
 use Rattle.std.specs.Result.{IsOk}

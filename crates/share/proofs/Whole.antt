@@ -7,45 +7,17 @@ use borrow.Author.Tests.{lt-ltb, ltb-true, ltb-false}
 use lib.Dec.{ltb}
 use lib.ListN.{length, take, length-append}
 use lib.Seq.{length-take-le}
-use Rattle.std.specs.Prelude.{Option, None, Some, IfSome, Result, Ok, Err, replicate}
+use Rattle.std.specs.Prelude.{Option, None, Some, IfSome, Err}
 use Rattle.std.specs.Io.KnownBytes.{Appends, Consumes, IsAtEnd}
-use Rattle.answers.specs.declared.Refusal.{Refusal}
 use Rattle.answers.specs.declared.Refusal.TheVariants.{NotInColumns}
 use Rattle.answers.specs.Order.{refuse◌if◌else◌}
-use Rattle.event_text.specs.declared.Opened.{Opened}
-use Rattle.registration.specs.declared.Registration.{Registration}
-use Rattle.event_writer.specs.Answers.{line_a}
-use Rattle.answers.specs.Numbers.{number_of}
-use Rattle.event_text.specs.Promises.{Opens, OpensBy}
-use Rattle.event_text.proofs.Cutting.{events_left}
-use Rattle.event_text.specs.Share.{input_most, lines_of, answers_to, journal_numbers, opening_of, share_if, share}
+use Rattle.event_text.specs.Share.{input_most, opening_of, share_if, share}
 use Rattle.lists.proofs.Cases.{by_test}
 
 -- an input that is too long is answered by 1, whatever its bytes are
 too_long : (text : List ℕ) → input_most < length text → share text ≡ share_if (Err NotInColumns) text
 unfolding share opening_of refuse◌if◌else◌
 too_long text h = rw (lt-ltb input_most (length text) h)
-
--- an input whose opening is refused is answered by the line of the refusal
-refused_line_by : (opening : Result Registration Refusal) (input : List ℕ) (refusal : Refusal) → OpensBy opening input (Err refusal)
-    → line_a (number_of refusal) 0 ≡ share_if opening input
-refused_line_by (Ok r) input refusal e = absurd e
-refused_line_by (Err reason) input refusal e = rw e
-
-pub refused_line : (input : List ℕ) (refusal : Refusal) → Opens input (Err refusal) → line_a (number_of refusal) 0 ≡ share input
-unfolding share
-refused_line input refusal e = refused_line_by (opening_of input) input refusal e
-
--- and any other by the answers to its events
-opened_answers_by : (opening : Result Registration Refusal) (input : List ℕ) (opened : Opened) → OpensBy opening input (Ok opened)
-    → answers_to opened.service (replicate journal_numbers 0) (lines_of opened.events.now) ≡ share_if opening input
-opened_answers_by (Ok r) input opened e = rw (e.service, e.events, events_left input)
-opened_answers_by (Err reason) input opened e = absurd e
-
-pub opened_answers : (input : List ℕ) (opened : Opened) → Opens input (Ok opened)
-    → answers_to opened.service (replicate journal_numbers 0) (lines_of opened.events.now) ≡ share input
-unfolding share
-opened_answers input opened e = opened_answers_by (opening_of input) input opened e
 
 -- the whole text is answered as what was read of it
 answered_alike : (text space rest : List ℕ) (count : ℕ) → length space ≡ input_most + 1 → count ≤ length space → text ≡ take count space ++ rest

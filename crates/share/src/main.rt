@@ -33,7 +33,10 @@ fn read_full<R: Read>(reader: &mut R, space: &mut [u8]) -> io::Result<usize>
 fn answer_lines<W: Write>(writer: &mut W, opened: Opened) -> io::Result<()>
     ensures { OnOk result (Appends (W.contents writer.old) (W.contents writer.new) (answers_to opened.entry.service (replicate journal_numbers 0) (lines_of opened.entry.events.now))) }
 {
-    let Opened { mut service, events } = opened;
+    let Opened {
+        mut service,
+        events,
+    } = opened;
     let mut journal = [0; JOURNAL_NUMBERS];
     let mut out = [0; event_text::ANSWER_MOST];
     let mut rest = events;

@@ -1,7 +1,8 @@
 -- `share::run` meets its contract: what is written is what `share` gives for what was read, and so for all that the reader had left. Assumes nothing.
 use Rattle.std.proofs.Common.{rules, ◌∙◌}
 use Rattle.std.proofs.lemmas.Result.{on_ok_weaker}
-use Rattle.share.proofs.Whole.{refused_line, opened_answers, written_whole}
+use Rattle.event_text.proofs.Sharing.{refused_line, opened_answers}
+use Rattle.share.proofs.Whole.{written_whole}
 use Rattle.share.proofs.run.Goals as goal
 
 pub returns-in-Err : goal.returns-in-Err
