@@ -104,12 +104,12 @@ pub fn earlier_weeks(entries: &[[u64; 3]], asked: Asked, point: u64) -> Weeks
     let near = first_near(point, asked);
     let mut weeks = Weeks::all_sought(point, asked);
     for numbers in entries.iter().rev() {
-        let entry = Entry::from(*numbers);
-        if is_near(near, entry.place) {
-            weeks.pass(entry, asked.until);
-            if weeks.count == WEEKS {
-                return weeks;
-            }
+        if !is_near(near, numbers[1]) {
+            continue;
+        }
+        weeks.pass(Entry::from(*numbers), asked.until);
+        if weeks.count == WEEKS {
+            return weeks;
         }
     }
     weeks

@@ -27,7 +27,7 @@ pass-requires c =
     (YieldsList-turn (YieldsList-from_rev_slice xs cc) l.yielded _ l.yielded_by _ _ c.in-Some.numbers c.in-Some.is c.next.ensures.steps)
     in
     let bounds = next_bounds xs (length xs - length l.yielded - 1) (omega arith) c.requires.0.right in
-    (omega (arith, l.invariant.small, most), most, rw (c.from-entry.ensures, t.1) bounds.1)
+    (omega (arith, l.invariant.small, most), most, rw (c.from.ensures, t.1) bounds.1)
 
 pub returns-then-weeks-eq-WEEKS : goal.returns-then-weeks-eq-WEEKS
 returns-then-weeks-eq-WEEKS c =
@@ -38,11 +38,11 @@ returns-then-weeks-eq-WEEKS c =
     from_the_end xs (length l.yielded) c.in-Some.numbers.now
     (YieldsList-turn (YieldsList-from_rev_slice xs cc) l.yielded _ l.yielded_by _ _ c.in-Some.numbers c.in-Some.is c.next.ensures.steps)
     in
-    let back = passing_back xs a.asked a.point c.requires.0.right (length xs - length l.yielded) l.weeks (omega arith) l.invariant c.pass.new.self (rw (c.from-entry.ensures, t.1) at c.pass.ensures) in
+    let back = passing_back xs a.asked a.point c.requires.0.right (length xs - length l.yielded) l.weeks (omega arith) l.invariant c.pass.new.self (rw (c.from.ensures, t.1) at c.pass.ensures) in
     passing_met xs a.asked a.point (length xs - length l.yielded - 1) c.pass.new.self back (omega (arith, c.if-weeks-eq-WEEKS.true))
 
-pub loop-numbers-preserved-else-weeks-eq-WEEKS : goal.loop-numbers-preserved-else-weeks-eq-WEEKS
-loop-numbers-preserved-else-weeks-eq-WEEKS c =
+pub loop-numbers-preserved-then-not-is_near : goal.loop-numbers-preserved-then-not-is_near
+loop-numbers-preserved-then-not-is_near c =
     let a = c.args in
     let xs = a.entries.now in
     let l = c.loop-numbers in
@@ -51,7 +51,8 @@ loop-numbers-preserved-else-weeks-eq-WEEKS c =
     (YieldsList-turn (YieldsList-from_rev_slice xs cc) l.yielded _ l.yielded_by _ _ c.in-Some.numbers c.in-Some.is c.next.ensures.steps)
     in
     let fewer : length xs - length (l.yielded ++ (c.in-Some.numbers ∷ [])) ≡ length xs - length l.yielded - 1 = omega (arith, length_push l.yielded c.in-Some.numbers) in
-    rw fewer (passing_back xs a.asked a.point c.requires.0.right (length xs - length l.yielded) l.weeks (omega arith) l.invariant c.pass.new.self (rw (c.from-entry.ensures, t.1) at c.pass.ensures))
+    let far = rw (c.first_near-near.ensures, t.1) at (sym c.is_near.ensures ∙ c.if-not-is_near.true) in
+    rw fewer (passing_over xs a.asked a.point c.requires.0.right (length xs - length l.yielded) l.weeks (omega arith) l.invariant far)
 
 pub loop-numbers-preserved : goal.loop-numbers-preserved
 loop-numbers-preserved c =
@@ -63,8 +64,7 @@ loop-numbers-preserved c =
     (YieldsList-turn (YieldsList-from_rev_slice xs cc) l.yielded _ l.yielded_by _ _ c.in-Some.numbers c.in-Some.is c.next.ensures.steps)
     in
     let fewer : length xs - length (l.yielded ++ (c.in-Some.numbers ∷ [])) ≡ length xs - length l.yielded - 1 = omega (arith, length_push l.yielded c.in-Some.numbers) in
-    let far = rw (c.first_near-near.ensures, c.from-entry.ensures, t.1) at (sym c.is_near.ensures ∙ c.if-is_near.false) in
-    rw fewer (passing_over xs a.asked a.point c.requires.0.right (length xs - length l.yielded) l.weeks (omega arith) l.invariant far)
+    rw fewer (passing_back xs a.asked a.point c.requires.0.right (length xs - length l.yielded) l.weeks (omega arith) l.invariant c.pass.new.self (rw (c.from.ensures, t.1) at c.pass.ensures))
 
 pub returns : goal.returns
 returns c =
