@@ -42,7 +42,7 @@ impl From<[u64; 3]> for Entry {
     }
 }
 
-// The first `count` entries of a journal, each as its three numbers.
+// The first `count` entries of a journal, each as its three numbers. The count comes beside the journal since the record of the C interface has it so.
 pub fn entries(journal: &[u64], count: usize) -> &[[u64; 3]]
     requires { 3 * count ≤ length journal.now }
     ensures { entries_in result.now ≡ entries count journal.now }

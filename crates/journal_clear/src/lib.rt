@@ -142,7 +142,7 @@ fn compact(numbers: &mut [u64], day: u64) -> usize
 }
 
 // Clears the first `count` entries, of a group of so many points, in place: those that K = day and P = stamp keep move to the front, in order,
-// the emptied numbers become 0. Returns how many are kept.
+// the emptied numbers become 0. Returns how many are kept. The count comes beside the journal since the record of the C interface has it so.
 pub fn keep(journal: &mut [u64], count: usize, points: u64, day: u64, stamp: u64) -> usize
     requires { (3 * count ≤ length journal.old) × RightFor points (entries count journal.old) }
     ensures { JournalCleared day stamp count journal.old journal.new result }
