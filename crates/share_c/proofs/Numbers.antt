@@ -4,7 +4,6 @@ use Rattle.std.specs.Result.{result_unwrap_or}
 use Rattle.answers.specs.declared.Refusal.{Refusal}
 use Rattle.answers.specs.Numbers.{answer_of}
 use Rattle.values.specs.declared.Measurement.{Measurement}
-use Rattle.lookup.specs.declared.Asked.{Asked}
 use Rattle.service.specs.declared.Service.{Service}
 use Rattle.service.specs.Call.{Submission, Clear, Evaluation}
 use Rattle.service.specs.Promises.{Submits, Clears, Evaluates}

@@ -191,6 +191,7 @@ pub extern "C" fn share_changeover(place: u64) -> Dated
 }
 
 // The date YYYYMMDD of a day, 0 where the calendar has no such day.
+#[tactic(auto, unfolding(calendar::specs::Dates::date_of))]
 #[unsafe(no_mangle)]
 pub extern "C" fn share_date(day: u64) -> u64
     ensures { result ≡ date_of day }
