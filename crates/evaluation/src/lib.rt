@@ -20,7 +20,7 @@ ghost use Rattle.evaluation.specs.Working.{values_in, origins_of, result_in};
 
 use allocation::Allocated;
 use lists::Page;
-use lookup::{Asked, PointValue};
+use lookup::{Asked, Lookup, PointValue};
 use registration::Registration;
 
 // The most numbers that the result of an undamaged registration has.
@@ -123,7 +123,7 @@ pub fn evaluate(
     ensures { ResultPut (result_from registration.now (values_in registration.now (entries_in entries.now) asked.day asked.quarter asked.until)) list.old list.new result }
 {
     let points = registration.points();
-    let values = lookup::values(entries, asked, &registration.statuses[..points]);
+    let values = Lookup { entries, asked }.values(&registration.statuses[..points]);
     let allocated = allocation::allocate(registration, &magnitudes(values));
     put_parts(list, registration, &allocated, &values[..points]);
     allocated.rounds

@@ -4,6 +4,7 @@ pub mod Means
 pub mod Substituted
 pub mod Laws
 pub mod Origins
+pub mod Opened
 pub mod Passed
 pub mod Newest
 pub mod Own

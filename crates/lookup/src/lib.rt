@@ -10,7 +10,7 @@ ghost use Rattle.lookup.specs.Substitutes.{number_of_origin};
 ghost use Rattle.lookup.specs.Working.{Readable, own_value, looked_up_in, value_for, TakenIn, OwnOf, AllOf};
 
 use journal::{Entry, POINT_PLACES};
-use weeks::{earlier_weeks, mean};
+use weeks::mean;
 
 mod weeks;
 
@@ -20,6 +20,15 @@ pub struct Asked {
     pub day: u64,
     pub quarter: u64,
     pub until: u64,
+}
+
+// A look-up in a journal: its entries, which are right, and the quarter hour that is asked for, which exists.
+#[derive(Clone, Copy)]
+pub struct Lookup<'a> {
+    pub entries: &'a [[u64; 3]],
+    pub asked: Asked,
+    // In ∥ .. ∥₁, since the entries may be right by more than one number of points, kept day and last stamp.
+    pub ghost readable: { ∥ Readable (entries_in entries.now) asked ∥₁ },
 }
 
 // Where a point's value comes from: it was measured, it is the mean of so many earlier weeks, 1 to 4, it is zero by the point's status, or zero for lack
@@ -65,70 +74,66 @@ fn take_in(own: &mut [Option<u64>], entry: Entry, slot: u64, until: u64)
     }
 }
 
-// What each point's own quarter hour shows, if it has a reading, in one pass.
-fn own_readings(entries: &[[u64; 3]], asked: Asked) -> [Option<u64>; 64]
-    requires { Readable (entries_in entries.now) asked }
-    ensures { OwnOf (entries_in entries.now) asked result }
-{
-    let slot = journal::place(0, asked.day, asked.quarter);
-    let mut own = [None; 64];
-    for numbers in entries {
-        take_in(&mut own, Entry::from(*numbers), slot, asked.until);
+impl Lookup<'_> {
+    // What each point's own quarter hour shows, if it has a reading, in one pass.
+    fn own_readings(&self) -> [Option<u64>; 64]
+        ensures { OwnOf (entries_in self.now.entries.now) self.now.asked result }
+    {
+        let asked = self.asked;
+        let slot = journal::place(0, asked.day, asked.quarter);
+        let mut own = [None; 64];
+        for numbers in self.entries {
+            take_in(&mut own, Entry::from(*numbers), slot, asked.until);
+        }
+        own
     }
-    own
-}
 
-// The value of a point and its origin: its reading, where its own quarter hour has one, else the substitute: zero by a status above 0, else the mean of
-// the earlier weeks that have a reading, and zero where none has.
-fn look_up(
-    entries: &[[u64; 3]],
-    asked: Asked,
-    point: usize,
-    status: u8,
-    own: Option<u64>,
-) -> PointValue
-    requires { Readable (entries_in entries.now) asked × (point < 64) × (value_for own ≡ own_value (entries_in entries.now) asked point) }
-    ensures { result ≡ looked_up_in (entries_in entries.now) asked point status }
-{
-    if let Some(magnitude) = own {
-        return PointValue {
+    // The value of a point and its origin: its reading, where its own quarter hour has one, else the substitute: zero by a status above 0, else the mean
+    // of the earlier weeks that have a reading, and zero where none has.
+    fn look_up(&self, point: usize, status: u8, own: Option<u64>) -> PointValue
+        requires { (point < 64) × (value_for own ≡ own_value (entries_in self.now.entries.now) self.now.asked point) }
+        ensures { result ≡ looked_up_in (entries_in self.now.entries.now) self.now.asked point status }
+    {
+        if let Some(magnitude) = own {
+            return PointValue {
+                magnitude,
+                origin: Origin::Measured,
+            };
+        }
+        if status > 0 {
+            return PointValue {
+                magnitude: 0,
+                origin: Origin::ZeroByStatus,
+            };
+        }
+        let weeks = self.earlier_weeks(point as u64);
+        if weeks.count == 0 {
+            return PointValue {
+                magnitude: 0,
+                origin: Origin::ZeroForLack,
+            };
+        }
+        let magnitude = mean(weeks.sum, weeks.count);
+        PointValue {
             magnitude,
-            origin: Origin::Measured,
-        };
+            origin: Origin::Weeks(weeks.count),
+        }
     }
-    if status > 0 {
-        return PointValue {
-            magnitude: 0,
-            origin: Origin::ZeroByStatus,
-        };
-    }
-    let weeks = earlier_weeks(entries, asked, point as u64);
-    if weeks.count == 0 {
-        return PointValue {
+
+    // The values of all points, producers first, each by its status; what stands at places of no point is free.
+    pub fn values(&self, statuses: &[u8]) -> [PointValue; 64]
+        requires { length statuses.now ≤ 64 }
+        ensures { AllOf (entries_in self.now.entries.now) self.now.asked statuses.now result }
+    {
+        let own = self.own_readings();
+        let none = PointValue {
             magnitude: 0,
             origin: Origin::ZeroForLack,
         };
+        let mut values = [none; 64];
+        for (point, status) in statuses.iter().enumerate() {
+            values[point] = self.look_up(point, *status, own[point]);
+        }
+        values
     }
-    let magnitude = mean(weeks.sum, weeks.count);
-    PointValue {
-        magnitude,
-        origin: Origin::Weeks(weeks.count),
-    }
-}
-
-// The values of all points, producers first, each by its status; what stands at places of no point is free.
-pub fn values(entries: &[[u64; 3]], asked: Asked, statuses: &[u8]) -> [PointValue; 64]
-    requires { Readable (entries_in entries.now) asked × (length statuses.now ≤ 64) }
-    ensures { AllOf (entries_in entries.now) asked statuses.now result }
-{
-    let own = own_readings(entries, asked);
-    let none = PointValue {
-        magnitude: 0,
-        origin: Origin::ZeroForLack,
-    };
-    let mut values = [none; 64];
-    for (point, status) in statuses.iter().enumerate() {
-        values[point] = look_up(entries, asked, point, *status, own[point]);
-    }
-    values
 }

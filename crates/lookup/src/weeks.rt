@@ -5,9 +5,9 @@ ghost use Rattle.calendar.specs.Quarters.{quarter_exists};
 ghost use Rattle.journal.specs.Stored.{entries_in};
 ghost use Rattle.lookup.specs.Mean.{nearest};
 ghost use Rattle.lookup.specs.Substitutes.{existing};
-ghost use Rattle.lookup.specs.Working.{Readable, earlier_values, nowhere, earlier_place, all_sought, without, passed, first_near, is_near, Summed};
+ghost use Rattle.lookup.specs.Working.{earlier_values, nowhere, earlier_place, all_sought, without, passed, first_near, is_near, Summed};
 
-use super::Asked;
+use super::{Asked, Lookup};
 use journal::Entry;
 
 // What a pass back through the journal knows of a point's earlier weeks: the place of each week that is sought, and none once it has been met or where
@@ -95,24 +95,26 @@ fn is_near(first: u64, place: u64) -> bool
     place.wrapping_sub(first) < NEAR_PLACES
 }
 
-// The sum and the number of the readings that a point has in the earlier weeks. The stamps rise, so from the last entry back the first that is met of
-// a place is the newest; the pass ends when all four weeks are met.
-pub fn earlier_weeks(entries: &[[u64; 3]], asked: Asked, point: u64) -> Weeks
-    requires { Readable (entries_in entries.now) asked × (point < 64) }
-    ensures { Summed (existing (earlier_values (entries_in entries.now) asked point)) result }
-{
-    let near = first_near(point, asked);
-    let mut weeks = Weeks::all_sought(point, asked);
-    for numbers in entries.iter().rev() {
-        if !is_near(near, numbers[1]) {
-            continue;
+impl Lookup<'_> {
+    // The sum and the number of the readings that a point has in the earlier weeks. The stamps rise, so from the last entry back the first that is met of
+    // a place is the newest; the pass ends when all four weeks are met.
+    pub(crate) fn earlier_weeks(&self, point: u64) -> Weeks
+        requires { point < 64 }
+        ensures { Summed (existing (earlier_values (entries_in self.now.entries.now) self.now.asked point)) result }
+    {
+        let near = first_near(point, self.asked);
+        let mut weeks = Weeks::all_sought(point, self.asked);
+        for numbers in self.entries.iter().rev() {
+            if !is_near(near, numbers[1]) {
+                continue;
+            }
+            weeks.pass(Entry::from(*numbers), self.asked.until);
+            if weeks.count == WEEKS {
+                return weeks;
+            }
         }
-        weeks.pass(Entry::from(*numbers), asked.until);
-        if weeks.count == WEEKS {
-            return weeks;
-        }
+        weeks
     }
-    weeks
 }
 
 // A sum divided by a count, rounded to the nearest whole number, halves up.
