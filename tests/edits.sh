@@ -23,7 +23,7 @@ def functions(crate):
         module = [part for part in place.with_suffix("").parts[1:] if part not in ("lib", "main")]
         inside = []
         for number, line in enumerate(file.read_text().splitlines(), 1):
-            if found := re.match(r"impl (?:\w+ for )?(\w+)", line):
+            if found := re.match(r"impl(?:<[^>]*>)? (?:\S+ for )?(\w+)", line):
                 inside = [found[1]]
             elif line == "}":
                 inside = []

@@ -43,9 +43,9 @@ same() {
 }
 
 same result_most crates/evaluation/specs/Layout.antt RESULT_MOST crates/evaluation/src/lib.rt RESULT_MOST $home/share.h RESULT_MOST $home/rust/src/lib.rs
-same MEASURED crates/lookup/src/lib.rt SHARE_MEASURED $home/share.h Measured $home/rust/src/origin.rs
-same ZERO_BY_STATUS crates/lookup/src/lib.rt SHARE_ZERO_BY_STATUS $home/share.h ZeroByStatus $home/rust/src/origin.rs
-same ZERO_FOR_LACK crates/lookup/src/lib.rt SHARE_ZERO_FOR_LACK $home/share.h ZeroForLack $home/rust/src/origin.rs
+same 'number_of_origin Measured' crates/lookup/specs/Substitutes.antt SHARE_MEASURED $home/share.h Measured $home/rust/src/origin.rs
+same 'number_of_origin ZeroByStatus' crates/lookup/specs/Substitutes.antt SHARE_ZERO_BY_STATUS $home/share.h ZeroByStatus $home/rust/src/origin.rs
+same 'number_of_origin ZeroForLack' crates/lookup/specs/Substitutes.antt SHARE_ZERO_FOR_LACK $home/share.h ZeroForLack $home/rust/src/origin.rs
 same changeover_count crates/calendar/specs/Changeovers.antt CHANGEOVER_COUNT $home/share.h CHANGEOVER_COUNT $home/rust/src/lib.rs
 same TEXT_MOST $home/share.h TEXT_MOST $home/rust/src/lib.rs
 
