@@ -4,12 +4,14 @@ use lib.Dec.{ltb}
 use mathlib.Core.Path.{◌≡◌, refl, sym, ap, ◌∙◌}
 use mathlib.Core.Bool.{Bool, true, false, not, ◌&&◌, ◌||◌}
 use mathlib.Core.List.{List, [], ◌∷◌}
+use native.Mathlib.Nat.{zero-add}
 use native.Mathlib.Numerals.{add-one}
 use native.Mathlib.Omega.{arith}
 use lib.ListN.{length, take, drop, get_or, length-drop}
-use Rattle.std.specs.List.{list_all, list_any}
+use Rattle.std.specs.List.{list_all, list_any, range_with_len}
 use Rattle.std.proofs.lemmas.List.{take_all}
 use Rattle.std.proofs.lemmas.List.Folds.{list_all_more, list_any_more}
+use Rattle.std.proofs.lemmas.List.FromFn.{length-range_with_len, get_or-range_with_len}
 use borrow.Author.Tests.{le-ltb}
 use Rattle.std.proofs.lemmas.List.{get_or-take, get_or-drop}
 use lib.Seq.{take-suc, length-take-le}
@@ -79,3 +81,11 @@ taken_one (y ∷ ys) rest (suc n) x past e =
 
 pub taken_all : {A : Type 0} (list rest : List A) (n : ℕ) → rest ≡ drop n list → length rest ≡ 0 → length list ≤ n
 taken_all list rest n e z = omega (arith, simp length-drop at (ap length e))
+
+-- a test of each number below n is one of each number of a range
+pub every_range : (test : ℕ → Bool) (n : ℕ) → every test n ≡ list_all test (range_with_len 0 n)
+every_range test n =
+    let numbers = range_with_len 0 n in
+    let size : length numbers ≡ n = length-range_with_len 0 n in
+    every_same test (λ i. test (get_or numbers i 0)) n (λ i h. ap test (sym (get_or-range_with_len 0 n i 0 h ∙ zero-add i)))
+    ∙ rw size at (every_whole test numbers 0)

@@ -1,17 +1,12 @@
--- `registration_damage::all_pairs_unused` meets its contract: every consumer before this one has zeros in its unused places. Assumes nothing.
-use mathlib.Core.Path.{sym, ◌∙◌}
-use native.Mathlib.Omega.{arith}
-use Rattle.lists.proofs.Below.{every_none, every_next, every_stop, every_done}
+-- `registration_damage::all_pairs_unused` meets its contract: the test of each number of the range. Assumes nothing.
+use Rattle.std.proofs.Common.{rules, tests, sym, ◌∙◌, arith}
+use Rattle.std.proofs.lemmas.Iterator.{YieldsList-from_range}
+use Rattle.std.proofs.lemmas.Iterator.Search.{all_from_yields_List}
+use Rattle.registration.specs.Damage.{pairs_unused}
+use Rattle.lists.proofs.Chains.{every_range}
 use Rattle.registration_damage.proofs.all_pairs_unused.Goals as goal
 
-pub loop-consumer-init : goal.loop-consumer-init
-loop-consumer-init c = every_none _
-
-pub returns-then-not-pairs_unused : goal.returns-then-not-pairs_unused
-returns-then-not-pairs_unused c = every_stop _ _ c.loop-consumer.consumer (omega arith) (sym c.pairs_unused.ensures ∙ c.if-not-pairs_unused.true)
-
-pub loop-consumer-preserved : goal.loop-consumer-preserved
-loop-consumer-preserved c = every_next _ _ c.loop-consumer.invariant (sym c.pairs_unused.ensures ∙ c.if-not-pairs_unused.false)
-
 pub returns : goal.returns
-returns c = every_done _ _ c.loop-consumer.consumer (omega arith) c.loop-consumer.invariant
+returns c =
+    all_from_yields_List (pairs_unused c.args.registration.now) _ _ _ c.all.ensures.ran (YieldsList-from_range 0 64 64 (cc) (omega arith)) (λ x b q k. search (rules, tests))
+    ∙ sym (every_range (pairs_unused c.args.registration.now) 64)

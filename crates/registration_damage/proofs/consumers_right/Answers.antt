@@ -1,17 +1,12 @@
--- `registration_damage::consumers_right` meets its contract: every consumer before this one is right. Assumes nothing.
-use mathlib.Core.Path.{sym, ◌∙◌}
-use native.Mathlib.Omega.{arith}
-use Rattle.lists.proofs.Below.{every_none, every_next, every_stop, every_done}
+-- `registration_damage::consumers_right` meets its contract: the test of each number of the range. Assumes nothing.
+use Rattle.std.proofs.Common.{rules, tests, sym, ◌∙◌, arith}
+use Rattle.std.proofs.lemmas.Iterator.{YieldsList-from_range}
+use Rattle.std.proofs.lemmas.Iterator.Search.{all_from_yields_List}
+use Rattle.registration.specs.Rules.{consumer_right}
+use Rattle.lists.proofs.Chains.{every_range}
 use Rattle.registration_damage.proofs.consumers_right.Goals as goal
 
-pub loop-consumer-init : goal.loop-consumer-init
-loop-consumer-init c = every_none _
-
-pub returns-then-not-consumer_right : goal.returns-then-not-consumer_right
-returns-then-not-consumer_right c = every_stop _ _ c.loop-consumer.consumer (omega arith) (sym c.consumer_right.ensures ∙ c.if-not-consumer_right.true)
-
-pub loop-consumer-preserved : goal.loop-consumer-preserved
-loop-consumer-preserved c = every_next _ _ c.loop-consumer.invariant (sym c.consumer_right.ensures ∙ c.if-not-consumer_right.false)
-
 pub returns : goal.returns
-returns c = every_done _ _ c.loop-consumer.consumer (omega arith) c.loop-consumer.invariant
+returns c =
+    all_from_yields_List (consumer_right c.args.registration.now) _ _ _ c.all.ensures.ran (YieldsList-from_range 0 c.args.registration.now.consumers c.args.registration.now.consumers (cc) (omega arith)) (λ x b q k. search (rules, tests))
+    ∙ sym (every_range (consumer_right c.args.registration.now) c.args.registration.now.consumers)
