@@ -27,7 +27,7 @@ fn byte_before(minus: bool, n: u64) -> u8
     }
 }
 
-// Fills a column from its right end.
+// Fills a column from its right end: by hand, since a number too large for its column fills it with its last digits, which no format of the library does.
 fn write_column(out: &mut [u8], minus: bool, value: u64)
     ensures { out.new ≡ column_of minus (length out.old) value }
 {

@@ -1,5 +1,5 @@
 // The clear of a journal, in place. Window by window of keys, each entry up to the stamp that is not the one shown for its place loses its own
-// stamp; then the entries that are left move to the front. A pass goes from the last entry back: since the newest is shown, the first entry met
+// stamp, which marks it in the journal itself, since there is no heap for marks; then the entries that are left move to the front. A pass goes from the last entry back: since the newest is shown, the first entry met
 // of a place is the one shown, and those met after it are superseded. Which keys were seen stands in a table of bits. A key is a place by its
 // quarter hour first and its point second, and a quarter hour has as many keys as the group has points: entries of some months lie in a window
 // or two, however many points there are, and the fewer there are the longer is the time that a window holds.

@@ -11,7 +11,7 @@ use answers::Refusal;
 use registration::{Pair, Registration};
 use registration_text::{CONSUMER, FIXED, FIXED_BYTES, GROUP, PAIR, PAIR_BYTES, PRODUCER};
 
-// The most that a line may say.
+// The most that a line may say, as its columns have it; a constant takes no call, so `as` widens the numbers.
 const STATUS_MOST: u64 = Registration::STATUS_MOST as u64;
 
 const ITERATION_MOST: u64 = Registration::ITERATION_MOST as u64;

@@ -12,7 +12,8 @@ use std::io::{Read, Write};
 // The numbers of the journal: three for each of 1000 entries.
 const JOURNAL_NUMBERS: usize = 3000;
 
-// Fills a space from the front with what a reader gives, as far as either goes, and says how many bytes that is.
+// Fills a space from the front with what a reader gives, as far as either goes, and says how many bytes that is. The count stands beside the space since
+// the input's end may come first, which the library's `read_exact` takes for an error; its `read_to_end` wants the heap.
 fn read_full<R: Read>(reader: &mut R, space: &mut [u8]) -> io::Result<usize>
     ensures within { IfOk result (λ count. count ≤ length space.new) }
     ensures bytes { IfOk result (λ count. Consumes (R.remaining reader.old) (R.remaining reader.new) (take count space.new)) }

@@ -1,4 +1,5 @@
-// The static library: the calls of a service, the text of a registration, and days, dates and changeover days, for C and Rust. Answers are records of numbers, and no call asks anything of its arguments.
+// The static library: the calls of a service, the text of a registration, and days, dates and changeover days, for C and Rust. Answers are records of numbers, since C
+// has no Result and no Option, and no call asks anything of its arguments.
 #![tactic(auto)]
 
 ghost use Rattle.std.specs.Prelude.{◌≡◌};
