@@ -101,11 +101,6 @@ module _ (s : Service) (j : List ℕ) {before after : Page ℕ} where
   replied_clear date stamp s' answer j' made p =
       replied_by_a (Some (Clear date stamp)) (λ day. ClearUp day stamp) (day_of date) s' answer j' refl (λ day seen. refl) made p
 
-  -- an evaluation whose date does not exist
-  pub replied_no_day : (date quarter T : ℕ) → None ≡ day_of date → Added (line_r (number_of NoSuchDay) 0) before after
-      → Replied (reply_of s j (Some (Evaluation date quarter T))) s j before after
-  replied_no_day date quarter T e p = rw (← e) (record { service = refl; journal = refl; bytes = p })
-
   -- an evaluation leaves record and journal as they are
   module _ (date day quarter T : ℕ) (e : Some day ≡ day_of date) where
     replied_evaluation : Added (evaluation_text s.registration (seen_at s j day quarter T)) before after → Replied (reply_of s j (Some (Evaluation date quarter T))) s j before after

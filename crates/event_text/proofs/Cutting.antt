@@ -146,10 +146,6 @@ module _ (input : List ℕ) where
 pub events_ended : (text : List ℕ) → is_event text ≡ true → text ≡ events_text text
 events_ended text e = rw (registration_ended text e)
 
-pub events_nothing : (text : List ℕ) → length text ≤ 0 → text ≡ events_text text
-events_nothing [] h = rw registration_none
-events_nothing (byte ∷ bytes) h = absurd (omega arith)
-
 pub events_after : (text : List ℕ) → is_event text ≡ false → events_text (after_line text) ≡ events_text text
 events_after text e =
     let first = first_line text in

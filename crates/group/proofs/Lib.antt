@@ -3,5 +3,4 @@ pub mod Undamaged
 pub mod Admitted
 pub mod Laws
 pub mod Cases
-pub mod Told
 pub mod Looking

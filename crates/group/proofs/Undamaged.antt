@@ -1,11 +1,10 @@
 -- A group that is not sound is damaged, and past the other tests its entries tell. Assumes nothing.
 use Prim.Native.Nat.{ℕ, ◌*◌, ◌≤◌}
-use mathlib.Core.Path.{◌≡◌, sym}
-use mathlib.Core.Bool.{Bool, true, false, not}
+use mathlib.Core.Path.{◌≡◌}
+use mathlib.Core.Bool.{true, false}
 use native.Mathlib.Omega.{arith}
 use mathlib.Core.List.{List}
 use lib.ListN.{length}
-use borrow.Author.Tests.{le-ltb}
 use lib.Dec.{leb, ltb}
 use Rattle.std.specs.Prelude.{◌&&◌, Result, Err}
 use Rattle.std.proofs.lemmas.Grind.{common_steps}
@@ -18,35 +17,13 @@ use Rattle.registration.specs.declared.Registration.{Registration}
 use Rattle.registration.specs.Rules.{points, code_at}
 use Rattle.registration.specs.Damage.{is_damaged}
 use Rattle.registration.proofs.Damage.{undamaged_parts, point_bounds}
-use Rattle.journal.specs.Damage.{entries_right, Right, RightFor}
+use Rattle.journal.specs.Damage.{Right, RightFor}
 use Rattle.journal.proofs.Stored.{length_entries}
 use Rattle.group.specs.declared.Numbers.{Numbers}
 use Rattle.group.specs.Held.{group_in}
 use Rattle.group.specs.Group.{Group}
 use Rattle.group.specs.Refusals.{damaged}
-use Rattle.group.specs.Stamps.{stamp_most}
-use Rattle.lists.proofs.Cases.{by_test}
 use Rattle.group.proofs.Sound.{Sound, undamaged_sound}
-
--- one part that is missing makes a group damaged
-pub damaged_by : (last : ℕ) (G : Group) → (Sound last G → ⊥) → true ≡ damaged last G
-damaged_by last G n = by_test (damaged last G) (λ t. sym t) (λ t. absurd (n (undamaged_sound last G t)))
-
--- past the other tests, what is left to tell is whether the entries are right
-pub damaged_entries : (last : ℕ) (G : Group) → is_damaged G.registration ≡ false → G.keptstamp ≤ last → last ≤ stamp_most → G.keptday ≤ last_day
-    → 3 * length G.entries ≤ G.room → (right : Bool) → right ≡ entries_right (points G.registration) G.keptday last 0 G.entries
-    → not right ≡ damaged last G
-unfolding damaged
-damaged_entries last G a b c d e right r =
-    rw (
-      a,
-      le-ltb last G.keptstamp b,
-      le-ltb stamp_most last c,
-      le-ltb last_day G.keptday d,
-      le-ltb G.room (3 * length G.entries) e,
-      length_table (code_at G.registration) (points G.registration),
-      ← r,
-    )
 
 -- a registration that is not damaged has at most 64 points
 pub few : (r : Registration) → is_damaged r ≡ false → points r ≤ 64

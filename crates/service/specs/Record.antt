@@ -29,10 +29,6 @@ fresh_service r = record { registration = r; state = fresh_state }
 abbrev pub zero_service : Service
 zero_service = fresh_service empty
 
--- the record of a group, by its registration, the last stamp and its numbers
-abbrev pub record_of : Registration → (last : ℕ) → Numbers → Service
-record_of r last numbers = record { registration = r; state = record { last = last; numbers = numbers } }
-
 -- the group that record and journal hold
 abbrev pub group_of : Service → List ℕ → Group
 group_of s j = group_in s.registration s.state.numbers j

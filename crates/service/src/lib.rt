@@ -12,7 +12,7 @@ use lookup::Asked;
 use registration::Registration;
 use values::Measurement;
 
-// What changes of the record: the last stamp given, which is not the group's own, and the group's numbers.
+// What changes of the record: the last stamp given, which is not the group's own, and the group's numbers. It stands so in the C interface.
 #[repr(C)]
 #[derive(Clone, Copy)]
 pub struct State {

@@ -14,6 +14,8 @@ use registration::Registration;
 use service::Service;
 use values::Measurement;
 
+// In the C interface the number of an answer stands beside what it gives, with zeros where the call is refused.
+
 // The answer of `share_read`: the registration, zeros where it is refused.
 #[repr(C)]
 #[derive(Clone, Copy)]
