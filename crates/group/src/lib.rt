@@ -37,7 +37,8 @@ pub struct Numbers {
     pub entries: usize,
 }
 
-// A group: its registration, the last stamp given, its numbers, and the journal with its entries.
+// A group: its registration, the last stamp given, its numbers, and the journal with its entries. It may be damaged, so that the journal holds so many
+// entries is asked for where they are read.
 #[derive(Clone, Copy)]
 pub struct Group<'a> {
     pub registration: &'a Registration,

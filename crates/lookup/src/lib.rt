@@ -14,7 +14,7 @@ use weeks::mean;
 
 mod weeks;
 
-// The quarter hour that is evaluated, and the stamp as of which.
+// The quarter hour that is evaluated, and the stamp as of which: what a caller asks for, so that whether there is such a quarter hour is said beside it.
 #[derive(Clone, Copy)]
 pub struct Asked {
     pub day: u64,

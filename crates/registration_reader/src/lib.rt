@@ -27,7 +27,8 @@ fn judge(registration: &Registration, rest: &[u8]) -> Result<(), Refusal>
     Ok(())
 }
 
-// Reads a registration from its text.
+// Reads a registration from its text. The lines of producers and of consumers have a loop each: one loop for both would take a closure that changes the
+// registration, and be longer than the two.
 pub fn read(text: &[u8]) -> Result<Registration, Refusal>
     ensures { result ≡ read_text text.now }
 {

@@ -1,5 +1,4 @@
-// The static library: the calls of a service, the text of a registration, and days, dates and changeover days, for C and Rust. Answers are records of numbers, since C
-// has no Result and no Option, and no call asks anything of its arguments.
+// The static library: the calls of a service, the text of a registration, and days, dates and changeover days, for C and Rust. Answers are records of numbers, and no call asks anything of its arguments.
 #![tactic(auto)]
 
 ghost use Rattle.std.specs.Prelude.{◌≡◌};
@@ -14,7 +13,7 @@ use registration::Registration;
 use service::Service;
 use values::Measurement;
 
-// In the C interface the number of an answer stands beside what it gives, with zeros where the call is refused.
+// C has no Result and no Option, so in its records the number of an answer stands beside what it gives, with zeros where the call is refused.
 
 // The answer of `share_read`: the registration, zeros where it is refused.
 #[repr(C)]
