@@ -74,7 +74,7 @@ reads() {
 calls=$(listed "The calls")
 texts=$(listed "Text and program")
 changeovers=$(listed "Changeover days")
-reads 1010 1110 "$calls" "$calls"
+reads 950 1050 "$calls" "$calls"
 reads 550 650 "$texts" "$calls
 $texts"
 reads 50 70 "$changeovers" "$calls

@@ -15,9 +15,8 @@ use Rattle.journal.specs.declared.Entry.{Entry}
 use Rattle.journal.specs.Entries.{readings_at}
 use Rattle.journal.proofs.ShownLaws.{shown_snoc}
 use Rattle.journal.proofs.Kept.{readings_append}
-use Rattle.group.specs.Group.{Group, roll_of, place_for, readings_of, readings_for}
+use Rattle.group.specs.Group.{Group, roll_of, place_for, readings_of, readings_for, entry_of}
 use Rattle.group.specs.Stamps.{next_stamp}
-use Rattle.group.specs.Working.{entry_of}
 use Rattle.service.specs.Calls.{with_entry, submitted}
 use Rattle.demand3.specs.Book.{Book, Page, Note, is_for, noted, newest_noted, note_of, with_note, book_stamp, book_submitted}
 use Rattle.group.proofs.Admitted.{Admitted}

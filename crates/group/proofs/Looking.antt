@@ -22,9 +22,9 @@ use Rattle.lists.proofs.Cases.{by_test}
 use Rattle.journal.proofs.Stored.{length_entries}
 use Rattle.group.specs.declared.Looked.{Looked}
 use Rattle.group.specs.declared.Looked.TheVariants.{Repeat, New}
-use Rattle.group.specs.Working.{entry_of, looked_of, repeated}
+use Rattle.group.specs.Working.{looked_of, repeated}
 use Rattle.group.specs.declared.Numbers.{Numbers}
-use Rattle.group.specs.Group.{Group, roll_of, place_for, readings_for}
+use Rattle.group.specs.Group.{Group, roll_of, place_for, readings_for, entry_of}
 use Rattle.group.specs.Held.{group_in}
 use Rattle.group.specs.Refusals.{damaged, repeats, full, submission_verdict}
 use Rattle.group.specs.Stamps.{stamp_most, next_stamp}
@@ -99,10 +99,10 @@ module _ (last : ℕ) (G : Group) (clock : ℕ) (m : Measurement) (k : Suiting l
 
   pub look_repeats : (place stored stamp : ℕ) → place ≡ place_for G m.code m.day m.quarter → stored ≡ nat_abs m.value
       → Some stamp ≡ repeated (shown last (readings_at G.entries place)) stored
-      → Ok (Repeat stamp) ≡ result_and (submission_verdict last G clock m) (Ok (looked_of last G clock m))
+      → Ok (Repeat (record { stamp = stamp; place = place; stored = stored })) ≡ result_and (submission_verdict last G clock m) (Ok (looked_of last G clock m))
   look_repeats place stored stamp p v e =
       let t = shown_repeated (shown last (readings_for G m)) (nat_abs m.value) stamp (rw (p, v) at e) in
-      rw (repeats_accepted t.0, t.0, t.1)
+      rw (repeats_accepted t.0, t.0, t.1, p, v)
 
   module _ (place stored : ℕ) (p : place ≡ place_for G m.code m.day m.quarter) (v : stored ≡ nat_abs m.value)
       (e : None ≡ repeated (shown last (readings_at G.entries place)) stored) where
@@ -126,8 +126,9 @@ module _ (last : ℕ) (G : Group) (clock : ℕ) (m : Measurement) (k : Suiting l
 
 -- what is looked up tells whether the submission is a repeat, and what it gives
 module _ (last : ℕ) (G : Group) (clock : ℕ) (m : Measurement) where
-  pub repeat_told : (stamp : ℕ) → Repeat stamp ≡ looked_of last G clock m → (repeats last G m ≡ true) × (stamp ≡ stamp_of (shown last (readings_for G m)))
-  repeat_told stamp e = by_test (repeats last G m) (λ t. (t, cc (rw t at e))) (λ t. cc (rw t at e))
+  pub repeat_told : (e : Entry) → Repeat e ≡ looked_of last G clock m
+      → (repeats last G m ≡ true) × (e ≡ entry_of G (stamp_of (shown last (readings_for G m))) m)
+  repeat_told e q = by_test (repeats last G m) (λ t. (t, cc (rw t at q))) (λ t. cc (rw t at q))
 
   pub new_told : (e : Entry) → New e ≡ looked_of last G clock m → (repeats last G m ≡ false) × (e ≡ entry_of G (next_stamp clock last) m)
   new_told e q = by_test (repeats last G m) (λ t. cc (rw t at q)) (λ t. (t, cc (rw t at q)))

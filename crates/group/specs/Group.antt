@@ -2,6 +2,7 @@
 use Rattle.std.specs.Prelude.{ℕ, List}
 use Rattle.values.specs.declared.Measurement.{Measurement}
 use Rattle.registration.specs.declared.Registration.{Registration}
+use Rattle.journal.specs.Value.{value_of, stored_of}
 use Rattle.journal.specs.Order.{Reading}
 use Rattle.journal.specs.declared.Entry.{Entry}
 use Rattle.journal.specs.Entries.{place_of, readings_at}
@@ -30,3 +31,7 @@ readings_of G code day quarter = readings_at G.entries (place_for G code day qua
 -- the readings that the journal has for the code, day and quarter of a measurement
 abbrev pub readings_for : Group → Measurement → List Reading
 readings_for G m = readings_of G m.code m.day m.quarter
+
+-- the entry of a measurement that has a stamp
+abbrev pub entry_of : Group → (stamp : ℕ) → Measurement → Entry
+entry_of G stamp m = record { stamp = stamp; place = place_for G m.code m.day m.quarter; stored = stored_of (value_of m) }

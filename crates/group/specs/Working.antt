@@ -1,24 +1,18 @@
 -- What the code finds out on the way to the answer of a submission. Assumes nothing.
 use Rattle.std.specs.Prelude.{ℕ, cond, eqb, Option, Some, None}
 use Rattle.values.specs.declared.Measurement.{Measurement}
-use Rattle.journal.specs.declared.Entry.{Entry}
-use Rattle.journal.specs.Value.{value_of, stored_of}
 use Rattle.journal.specs.Order.{Reading}
 use Rattle.journal.specs.Readings.{shown, stamp_of}
 use Rattle.group.specs.declared.Looked.{Looked}
 use Rattle.group.specs.declared.Looked.TheVariants.{Repeat, New}
-use Rattle.group.specs.Group.{Group, place_for, readings_for}
+use Rattle.group.specs.Group.{Group, entry_of, readings_for}
 use Rattle.group.specs.Refusals.{repeats}
 use Rattle.group.specs.Stamps.{next_stamp}
 
--- the entry that a submission needs
-abbrev pub entry_of : Group → (stamp : ℕ) → Measurement → Entry
-entry_of G stamp m = record { stamp = stamp; place = place_for G m.code m.day m.quarter; stored = stored_of (value_of m) }
-
--- what an accepted submission comes to: where it repeats the reading shown that one's stamp, otherwise the entry that it needs, with a new stamp
+-- what an accepted submission comes to: where it repeats the reading shown the entry of that, otherwise the entry that it needs, with a new stamp
 abbrev pub looked_of : (last : ℕ) → Group → (clock : ℕ) → Measurement → Looked
 looked_of last G clock m =
-    cond (repeats last G m) (Repeat (stamp_of (shown last (readings_for G m)))) (New (entry_of G (next_stamp clock last) m))
+    cond (repeats last G m) (Repeat (entry_of G (stamp_of (shown last (readings_for G m))) m)) (New (entry_of G (next_stamp clock last) m))
 
 -- the stamp of a reading shown, if it has this value
 abbrev pub repeated : Option Reading → ℕ → Option ℕ

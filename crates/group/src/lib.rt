@@ -47,10 +47,10 @@ pub struct Group<'a> {
     pub journal: &'a [u64],
 }
 
-// What an accepted submission comes to: it repeats the reading shown, which has this stamp, or needs this entry.
+// What an accepted submission comes to: it repeats the entry shown, or needs this entry.
 #[derive(Clone, Copy)]
 pub enum Looked {
-    Repeat(u64),
+    Repeat(Entry),
     New(Entry),
 }
 
@@ -116,7 +116,11 @@ impl<'a> Group<'a> {
         let place = journal::place(point as u64, day, quarter);
         let magnitude = value.unsigned_abs();
         if let Some(stamp) = self.repeated(place, magnitude) {
-            return Ok(Looked::Repeat(stamp));
+            return Ok(Looked::Repeat(Entry {
+                stamp,
+                place,
+                stored: magnitude,
+            }));
         }
         if self.full() {
             return Err(Refusal::JournalFull);

@@ -25,10 +25,9 @@ use Rattle.journal.proofs.Stored.{length_entries, written_same, put_append}
 use Rattle.journal_clear.specs.Cleared.{JournalCleared}
 use Rattle.service.specs.declared.Service.{Service}
 use Rattle.lookup.specs.declared.Asked.{Asked}
-use Rattle.group.specs.Group.{Group, readings_for}
+use Rattle.group.specs.Group.{Group, readings_for, entry_of}
 use Rattle.group.specs.Refusals.{repeats, submission_verdict, clear_verdict, evaluation_verdict}
 use Rattle.group.specs.Stamps.{next_stamp}
-use Rattle.group.specs.Working.{entry_of}
 use Rattle.service.specs.Calls.{submitted, cleared, evaluated, step}
 use Rattle.service.specs.Record.{group_of, state_of, with_state, emptied_of, call_on}
 use Rattle.service.specs.Promises.{Submits, Clears, Evaluates}

@@ -8,11 +8,10 @@ use lib.ListN.{length, length-append}
 use Rattle.answers.specs.Numbers.{Verdict}
 use Rattle.std.specs.Prelude.{Ok, Err}
 use Rattle.lists.proofs.Cases.{by_test}
-use Rattle.group.specs.Group.{Group}
+use Rattle.group.specs.Group.{Group, entry_of}
 use Rattle.service.specs.Call.{Call, Submission, Clear, Evaluation, After}
 use Rattle.group.specs.Refusals.{repeats, submission_verdict, clear_verdict, evaluation_verdict}
 use Rattle.group.specs.Stamps.{next_stamp}
-use Rattle.group.specs.Working.{entry_of}
 use Rattle.service.specs.Calls.{submitted, cleared, evaluated, when_accepted, step}
 use Rattle.service.specs.Laws.{lent_by}
 use Rattle.group.proofs.Admitted.{admitted, clearing, evaluating}

@@ -14,11 +14,10 @@ use Rattle.journal.specs.Stored.{entries, written}
 use Rattle.journal.proofs.Kept.{length_keep}
 use Rattle.journal.proofs.Stored.{length_entries, front_stays, emptied_zero, later_stay}
 use Rattle.service.specs.declared.Service.{Service}
-use Rattle.group.specs.Group.{Group}
+use Rattle.group.specs.Group.{Group, entry_of}
 use Rattle.group.specs.Refusals.{repeats, submission_verdict, clear_verdict}
 use Rattle.group.specs.Stamps.{next_stamp}
 use Rattle.service.specs.Call.{Submission, Clear, refused}
-use Rattle.group.specs.Working.{entry_of}
 use Rattle.service.specs.Calls.{submitted, cleared, step}
 use Rattle.service.specs.Record.{group_of, emptied_of, call_on}
 use Rattle.service.specs.Laws.{SubmissionLeavesOthers, ClearLeavesLater}

@@ -23,11 +23,10 @@ use Rattle.journal.proofs.PlaceLaws.{point_in_place, day_in_place, quarter_in_pl
 use Rattle.journal.proofs.Kept.{length_keep}
 use Rattle.journal.proofs.RightEntries.{right_snoc, right_those}
 use Rattle.points.specs.Points.{index_of}
-use Rattle.group.specs.Group.{Group, roll_of}
+use Rattle.group.specs.Group.{Group, roll_of, entry_of}
 use Rattle.service.specs.Call.{Call, Submission, Clear, Evaluation, After}
 use Rattle.group.specs.Refusals.{repeats, evaluation_verdict}
 use Rattle.group.specs.Stamps.{next_stamp}
-use Rattle.group.specs.Working.{entry_of}
 use Rattle.service.specs.Calls.{with_entry, submitted, cleared_group, cleared, evaluated, when_accepted, step}
 use Rattle.service.specs.Laws.{StaysUndamaged}
 use Rattle.group.proofs.Sound.{Sound, undamaged, undamaged_sound}

@@ -9,8 +9,7 @@ use Rattle.journal.specs.declared.Entry.{Entry}
 use Rattle.journal.specs.Entries.{keep}
 use Rattle.evaluation.specs.Evaluation.{evaluation_of}
 use Rattle.values.specs.declared.Measurement.{Measurement}
-use Rattle.group.specs.Group.{Group, readings_of, readings_for}
-use Rattle.group.specs.Working.{entry_of}
+use Rattle.group.specs.Group.{Group, readings_of, readings_for, entry_of}
 use Rattle.service.specs.Call.{Call, Submission, Clear, Evaluation, Seen, After}
 use Rattle.group.specs.Refusals.{repeats, submission_verdict, clear_verdict, evaluation_verdict}
 use Rattle.group.specs.Stamps.{next_stamp}

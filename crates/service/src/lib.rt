@@ -85,7 +85,7 @@ impl Service {
         ensures { Submits self.old journal.old clock measurement self.new result journal.new }
     {
         match self.group(journal).look(clock, measurement)? {
-            Looked::Repeat(stamp) => Ok(stamp),
+            Looked::Repeat(entry) => Ok(entry.stamp),
             Looked::New(entry) => {
                 journal::put(journal, self.state.numbers.entries, entry);
                 self.state.last = entry.stamp;
