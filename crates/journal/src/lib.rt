@@ -42,6 +42,15 @@ impl From<[u64; 3]> for Entry {
     }
 }
 
+// The three numbers of an entry.
+impl From<Entry> for [u64; 3] {
+    ghost from_gives = { λ entry stands. stands ≡ numbers entry };
+
+    fn from(entry: Entry) -> [u64; 3] {
+        [entry.stamp, entry.place, entry.stored]
+    }
+}
+
 // The first `count` entries of a journal, each as its three numbers. The count comes beside the journal since the record of the C interface has it so.
 pub fn entries(journal: &[u64], count: usize) -> &[[u64; 3]]
     requires { 3 * count ≤ length journal.now }
@@ -84,8 +93,7 @@ pub fn put(journal: &mut [u64], i: usize, entry: Entry)
     ensures { journal.new ≡ placed (3 * i) (numbers entry) journal.old }
 {
     let at = ENTRY * i;
-    let numbers = [entry.stamp, entry.place, entry.stored];
-    journal[at..at + ENTRY].copy_from_slice(&numbers);
+    journal[at..at + ENTRY].copy_from_slice(&<[u64; 3]>::from(entry));
 }
 
 // Whether a day has a quarter, both as one number, day × 100 + quarter − 1. Every day has the first 92, so only for later ones the calendar is asked.

@@ -16,12 +16,12 @@ pub returns-then-contains : goal.returns-then-contains
 returns-then-contains c =
     let r = c.args.registration.now in
     let count = c.from-count.result in
-    let pairs = c.pairs_of-pairs.result in
+    let pairs = c.pairs-pairs.result in
     let five : length pairs ≡ 5 = search rules in
     let few : count ≤ 5 = search rules in
     let some : 1 ≤ count = search rules in
     let at : (k : ℕ) → k < count → get_or (take count pairs) k no_pair ≡ pair_at r c.args.consumer k =
-    λ k h. get_or-take count pairs k no_pair h ∙ c.pairs_of-pairs.ensures k (omega arith) in
+    λ k h. get_or-take count pairs k no_pair h ∙ c.pairs-pairs.ensures k (omega arith) in
     c.pairs_right.ensures
     ∙ rw (
       length-take-le count pairs (omega arith),
