@@ -1,6 +1,6 @@
 -- What holds of each number below n, by its index, said of the list of the first n. Assumes nothing.
 use Prim.Native.Nat.{ℕ, zero, suc, ◌+◌, ◌-◌, ◌≤◌, ◌<◌}
-use lib.Dec.{ltb}
+use lib.Dec.{ltb, eqb}
 use mathlib.Core.Path.{◌≡◌, refl, sym, ap, ◌∙◌}
 use mathlib.Core.Bool.{Bool, true, false, not, ◌&&◌, ◌||◌}
 use mathlib.Core.List.{List, [], ◌∷◌}
@@ -8,10 +8,10 @@ use native.Mathlib.Nat.{zero-add}
 use native.Mathlib.Numerals.{add-one}
 use native.Mathlib.Omega.{arith}
 use lib.ListN.{length, take, drop, get_or, length-drop}
-use Rattle.std.specs.List.{list_all, list_any, range_with_len}
+use Rattle.std.specs.List.{list_all, list_any, range_with_len, enumerate_from}
 use Rattle.std.proofs.lemmas.List.{take_all}
 use Rattle.std.proofs.lemmas.List.Folds.{list_all_more, list_any_more}
-use Rattle.std.proofs.lemmas.List.FromFn.{length-range_with_len, get_or-range_with_len}
+use Rattle.std.proofs.lemmas.List.FromFn.{length-range_with_len, get_or-range_with_len, length-enumerate_from, get_or-enumerate_from}
 use borrow.Author.Tests.{le-ltb}
 use Rattle.std.proofs.lemmas.List.{get_or-take, get_or-drop}
 use lib.Seq.{take-suc, length-take-le}
@@ -64,6 +64,16 @@ module _ (list : List ℕ) where
 
   pub differ_take : (n : ℕ) → n ≤ length list → differ (λ i. get_or (take n list) i 0) (length (take n list)) ≡ differ (λ i. get_or list i 0) n
   differ_take n h = rw (length-take-le n list h) (differ_same _ _ n (λ i l. get_or-take n list i 0 l))
+
+-- whether no number of a list stands among those before its index
+pub differ_indexed : (list : List ℕ)
+    → list_all (λ (p : ℕ × ℕ). not (list_any (λ (number : ℕ). eqb number p.1) (take p.0 list))) (enumerate_from 0 list) ≡ differ (λ i. get_or list i 0) (length list)
+unfolding differ
+differ_indexed list =
+    let test = λ (p : ℕ × ℕ). not (list_any (λ (number : ℕ). eqb number p.1) (take p.0 list)) in
+    let size : length (enumerate_from 0 list) ≡ length list = length-enumerate_from 0 list in
+    sym (every_whole test (enumerate_from 0 list) (0, 0))
+    ∙ rw size (every_same _ _ (length list) (λ i h. rw (get_or-enumerate_from, zero-add) (sym (none_take (λ number. eqb number (get_or list i 0)) list 0 i (omega arith)))))
 
 -- where the first n elements of a list have been taken: one more is left there, or none is
 pub record Taken {A : Type 0} (list rest : List A) (n : ℕ) (x past : A) : Type 0 where

@@ -1,24 +1,22 @@
--- `lists::differ` meets its contract: no number before this index equals an earlier one. Assumes nothing.
-use mathlib.Core.Path.{ap, sym, ◌∙◌}
+-- `lists::differ` meets its contract: the chain is a test of each number with its index. Assumes nothing.
+use Prim.Native.Nat.{ℕ}
+use mathlib.Core.Path.{◌∙◌}
 use mathlib.Core.Bool.{not}
-use native.Mathlib.Omega.{arith}
-use Rattle.lists.specs.Below.{differ}
-use Rattle.lists.proofs.Below.{every_none, every_next, every_stop, every_done}
-use Rattle.lists.proofs.Chains.{none_take}
+use borrow.Author.Tests.{tests}
+use Rattle.std.proofs.Common.{rules}
+use Rattle.std.proofs.lemmas.Iterator.{YieldsList-from_slice}
+use Rattle.std.proofs.lemmas.Iterator.Consumers.{YieldsList-from_enumerate}
+use Rattle.std.proofs.lemmas.Iterator.Search.{all_from_yields_List}
+use Rattle.std.specs.List.{list_any}
+use lib.Dec.{eqb}
+use lib.ListN.{take}
+use Rattle.lists.proofs.Chains.{differ_indexed}
 use Rattle.lists.proofs.differ.Goals as goal
 
-pub loop-index-init : goal.loop-index-init
-loop-index-init c = every_none _
-
-pub returns-then-contains : goal.returns-then-contains
-unfolding differ
-returns-then-contains c =
-    every_stop _ _ c.loop-index.index (omega arith) (none_take _ c.args.numbers.now 0 _ (omega arith) ∙ ap not (sym c.contains.ensures.value ∙ c.if-contains.true))
-
-pub loop-index-preserved : goal.loop-index-preserved
-loop-index-preserved c =
-    every_next _ _ c.loop-index.invariant (none_take _ c.args.numbers.now 0 _ (omega arith) ∙ ap not (sym c.contains.ensures.value ∙ c.if-contains.false))
-
 pub returns : goal.returns
-unfolding differ
-returns c = every_done _ _ c.loop-index.index (omega arith) c.loop-index.invariant
+returns c =
+    let numbers = c.args.numbers.now in
+    all_from_yields_List (λ (p : ℕ × ℕ). not (list_any (λ (number : ℕ). eqb number p.1) (take p.0 numbers))) _ _ _ c.all.ensures.ran
+    (YieldsList-from_enumerate (YieldsList-from_slice numbers cc) cc)
+    (λ x b q k. search (rules, tests))
+    ∙ differ_indexed numbers
