@@ -2,7 +2,7 @@
 use Prim.Native.Nat.{ℕ, zero, suc, ◌+◌, ◌-◌, ◌/◌, ◌%◌, ◌≤◌, ◌<◌}
 use mathlib.Core.Path.{◌≡◌, refl}
 use mathlib.Core.Bool.{Bool, not, ◌&&◌}
-use mathlib.Core.List.{List, [], ◌∷◌, ◌++◌, append_assoc}
+use mathlib.Core.List.{List, [], ◌∷◌, ◌++◌, append_assoc, append-nil}
 use native.Mathlib.Omega.{arith}
 use native.Mathlib.Numerals.{add-one, sub-one}
 use lib.Dec.{eqb}
@@ -21,25 +21,22 @@ unfolding column_of
 length_column minus zero n = refl
 length_column minus (suc w) n = rw (length-append, length_lead minus w (n / 10)) (omega arith)
 
+-- the bytes before the last one, filled from their right end: what is to be written before i, and what stands from i on
 module _ (out : List ℕ) (minus : Bool) where
-  -- what is to be written before i, and what stands from i on
+  pub fill_begin : (n : ℕ) → lead_of minus (length out) n ≡ lead_of minus (length out) n ++ drop (length out) out
+  fill_begin n = rw (drop-length, append-nil)
+
   pub fill_step : (i n : ℕ) → 0 < i → i ≤ length out
       → lead_of minus i n ++ drop i out ≡ lead_of (minus && not (eqb n 0)) (i - 1) (n / 10) ++ drop (i - 1) (set out (i - 1) (byte_before minus n))
   unfolding lead_of
   fill_step zero n h l = absurd (omega arith)
   fill_step (suc k) n h l = simp (sub-one, drop-set out k (byte_before minus n) l, add-one, append_assoc)
 
-  pub fill_last : (w n : ℕ) → 0 < w → w ≡ length out
-      → column_of minus w n ≡ lead_of minus (w - 1) (n / 10) ++ drop (w - 1) (set out (w - 1) (48 + n % 10))
-  unfolding column_of
-  fill_last zero n h l = absurd (omega arith)
-  fill_last (suc k) n h l =
-      let e : drop (suc k) out ≡ [] = rw (l, drop-length) in
-      simp (sub-one, drop-set out k (48 + n % 10) (omega arith), add-one, e)
-
-  pub fill_end : (i n : ℕ) → i ≡ 0 → lead_of minus i n ++ drop i out ≡ out
-  unfolding lead_of
-  fill_end i n e = rw e
+  -- and the last one after them
+  pub fill_end : (due : Bool) (w n i m : ℕ) → length out + 1 ≡ w → i ≡ 0 → lead_of minus (length out) (n / 10) ≡ lead_of due i m ++ drop i out
+      → out ++ ((48 + n % 10) ∷ []) ≡ column_of minus w n
+  unfolding lead_of column_of
+  fill_end due w n i m e z h = let s : w ≡ suc (length out) = omega arith in rw (s, h, z)
 
 pub fill_empty : (out : List ℕ) (minus : Bool) (n : ℕ) → length out ≡ 0 → out ≡ column_of minus (length out) n
 unfolding column_of

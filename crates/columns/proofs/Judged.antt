@@ -2,26 +2,15 @@
 use Prim.Native.Nat.{ℕ, ◌^◌, ◌-◌, ◌≤◌, ◌<◌}
 use mathlib.Core.Path.{◌≡◌, refl, sym, ◌∙◌}
 use mathlib.Core.Bool.{Bool, true, false, not, ◌&&◌}
-use mathlib.Core.List.{List, ◌++◌}
+use mathlib.Core.List.{List}
 use native.Mathlib.Omega.{arith}
 use borrow.Author.Tests.{eqb-true, leb-true}
 use lib.Dec.{leb, eqb}
-use lib.ListN.{length, get_or, take}
-use lib.Seq.{take_at, length-take-le}
+use lib.ListN.{length, get_or}
 use Rattle.std.specs.Prelude.{Option, None, Some}
-use Rattle.columns.specs.Column.{column_of, value_from, is_column, has_minus, number_if, signed_if, signed_in, space_byte, widest}
+use Rattle.columns.specs.Column.{value_from, is_column, has_minus, number_if, signed_if, signed_in, space_byte, widest}
 use Rattle.lists.proofs.Below.{both}
-use Rattle.columns.proofs.Fill.{length_column}
 use Rattle.columns.proofs.Values.{value_room, most}
-
--- what a column's width takes of the places, once that many are written
-pub written_places : (minus : Bool) (value : ℕ) (column places out rest : List ℕ) → length column ≤ length places
-    → out ≡ column_of minus (length (take (length column) places)) value
-    → take (length column) (out ++ rest) ≡ column_of minus (length column) value
-written_places minus value column places out rest h e =
-    let w : length (take (length column) places) ≡ length column = length-take-le (length column) places h in
-    let o : out ≡ column_of minus (length column) value = rw w at e in
-    rw o (take_at (column_of minus (length column) value) rest (length column) (length_column minus (length column) value))
 
 -- a number that is given was in its column
 number_given : (t : Bool) (v n : ℕ) → number_if t v ≡ Some n → (t ≡ true) × (v ≡ n)

@@ -8,18 +8,15 @@ use native.Mathlib.Nat.{pow-suc, pow-le-pow_right}
 use native.Mathlib.Numerals.{add-one, sub-one}
 use borrow.Author.Tests.{le-ltb, ltb-false}
 use lib.Dec.{eqb, ltb, lit<, eqb-suc-zero}
-use lib.ListN.{length, get_or, drop}
-use Rattle.std.proofs.lemmas.List.{at_drop_more, at_drop_all}
+use lib.ListN.{length, get_or}
+use Rattle.std.specs.List.{fold}
 use Rattle.columns.specs.Column.{byte_before, lead_of, column_of, digit_of, value_from, space_byte}
 
-pub value_step : (column : List ℕ) (v i : ℕ) → i < length column
-    → value_from v (drop i column) ≡ value_from (v * 10 + digit_of (get_or column i 0)) (drop (i + 1) column)
+-- the number is a fold of the bytes
+pub value_fold : (v : ℕ) (bytes : List ℕ) → fold (λ (n : ℕ) (byte : ℕ). n * 10 + digit_of byte) v bytes ≡ value_from v bytes
 unfolding value_from
-value_step column v i h = at_drop_more (value_from v) column i 0 h
-
-pub value_end : (column : List ℕ) (v i : ℕ) → i ≡ length column → value_from v (drop i column) ≡ v
-unfolding value_from
-value_end column v i e = at_drop_all (value_from v) column i (omega arith)
+value_fold v [] = refl
+value_fold v (byte ∷ bytes) = value_fold (v * 10 + digit_of byte) bytes
 
 pub tens : (i : ℕ) → 10 ^ (i + 1) ≡ 10 ^ i * 10
 tens i = rw (add-one, pow-suc)
@@ -27,7 +24,7 @@ tens i = rw (add-one, pow-suc)
 pub most : (i k : ℕ) → i ≤ k → 10 ^ i ≤ 10 ^ k
 most i k h = pow-le-pow_right (lit< tt) h
 
-digit_small : (byte : ℕ) → digit_of byte ≤ 9
+pub digit_small : (byte : ℕ) → digit_of byte ≤ 9
 digit_small byte = go (ltb byte 48) (ltb 57 byte) refl
   where
     go : (s t : Bool) → ltb 57 byte ≡ t → cond s 0 (cond t 0 (byte - 48)) ≤ 9

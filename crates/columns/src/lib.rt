@@ -1,9 +1,9 @@
 // A number in a column of fixed width, read and written.
 #![tactic(auto)]
 
-ghost use Rattle.std.specs.Prelude.{◌≡◌, false, ◌&&◌, ◌+◌, ◌≤◌, leb, eqb, length, get_or};
+ghost use Rattle.std.specs.Prelude.{◌≡◌, false, ◌&&◌, ◌+◌, ◌%◌, ◌≤◌, leb, eqb, length, get_or};
 ghost use Rattle.columns.specs.Column.{byte_before, column_of, signed_column_of, digit_of, value_from, same_bytes, is_column, number_if, number_in, signed_in, space_byte, widest};
-ghost use Rattle.lists.specs.Pages.{Added};
+ghost use Rattle.lists.specs.Pages.{Room, Added};
 
 use lists::Page;
 
@@ -16,6 +16,13 @@ pub const SPACE: u8 = b' ';
 // The widest column that is read.
 const WIDEST: usize = 19;
 
+// n's last digit, as a byte.
+fn last_digit(n: u64) -> u8
+    ensures { result ≡ 48 + n % 10 }
+{
+    b'0' + (n % 10) as u8
+}
+
 // n's last digit, or, where n is 0, what stands before the digits: a minus that is still due, or a space.
 fn byte_before(minus: bool, n: u64) -> u8
     ensures { result ≡ byte_before minus n }
@@ -23,29 +30,30 @@ fn byte_before(minus: bool, n: u64) -> u8
     match (n, minus) {
         (0, true) => MINUS,
         (0, false) => SPACE,
-        _ => b'0' + (n % 10) as u8,
+        _ => last_digit(n),
     }
 }
 
 // Fills a column from its right end: by hand, since a number too large for its column fills it with its last digits, which no format of the library does.
+// The sign stands beside a magnitude, since an i64 does not hold every u64. The index stays: as `before.iter_mut().rev()` its proof did not close, since
+// of what is written through that iterator nothing is known.
 fn write_column(out: &mut [u8], minus: bool, value: u64)
     ensures { out.new ≡ column_of minus (length out.old) value }
 {
-    if out.is_empty() {
+    let Some((last, before)) = out.split_last_mut() else {
         return;
-    }
-    let last = out.len() - 1;
-    out[last] = b'0' + (value % 10) as u8;
+    };
+    *last = last_digit(value);
     let mut n = value / 10;
     let mut due = minus;
-    for i in (0..last).rev() {
-        out[i] = byte_before(due, n);
-        due = due && n != 0;
+    for i in (0..before.len()).rev() {
+        before[i] = byte_before(due, n);
+        due &= n != 0;
         n /= 10;
     }
 }
 
-// Fills a column with a number.
+// Fills a column with a number: a function for each of the two kinds, here and in reading, since a trait with two impls would be longer.
 pub fn write_number(out: &mut [u8], value: u64)
     ensures { out.new ≡ column_of false (length out.old) value }
 {
@@ -59,7 +67,7 @@ pub fn write_signed(out: &mut [u8], value: i64)
     write_column(out, value < 0, value.unsigned_abs())
 }
 
-// The number that a digit stands for, and 0 for any other byte.
+// The number that a digit stands for, and 0 for any other byte: what fills a column before its digits counts 0.
 fn digit_of(byte: u8) -> u64
     ensures value { result ≡ digit_of byte }
     ensures upper_bound { result ≤ 9 }
@@ -76,11 +84,9 @@ fn value_of(column: &[u8]) -> u64
     requires { length column.now ≤ widest }
     ensures { result ≡ value_from 0 column.now }
 {
-    let mut value = 0;
-    for byte in column {
-        value = value * 10 + digit_of(*byte);
-    }
-    value
+    column
+        .iter()
+        .fold(0, |value, byte| value * 10 + digit_of(*byte))
 }
 
 // Whether a column is narrow enough and has a space in front.
@@ -117,20 +123,17 @@ pub fn read_signed(column: &[u8]) -> Option<i64>
     ensures { result ≡ signed_in column.now }
 {
     let minus = column.contains(&MINUS);
-    let value = read_digits(column, minus)?;
-    let signed = value as i64;
-    if !minus {
-        return Some(signed);
+    let value = read_digits(column, minus)? as i64;
+    match (minus, value) {
+        (true, 0) => None,
+        (true, _) => Some(-value),
+        (false, _) => Some(value),
     }
-    if value == 0 {
-        return None;
-    }
-    Some(-signed)
 }
 
 // Puts a number in a column on a page, after what was put before.
 pub fn put_number(page: &mut Page<u8>, width: usize, value: u64)
-    requires { page.old.end + width ≤ length page.old.space.now }
+    requires { Room width page.old }
     ensures { Added (column_of false width value) page.old page.new }
 {
     let end = page.end + width;
