@@ -4,7 +4,7 @@ use native.Mathlib.Omega.{arith}
 use mathlib.Core.Path.{◌≡◌, ◌∙◌}
 use mathlib.Core.Bool.{true, false, ◌&&◌}
 use mathlib.Core.List.{List, [], ◌∷◌, ◌++◌, append-nil}
-use Rattle.std.specs.Prelude.{Some}
+use Rattle.std.specs.Prelude.{Option, Some}
 use Rattle.std.specs.List.{find}
 use Rattle.std.specs.Option.{option_map}
 use Rattle.std.proofs.Common.{reverse, get_or, Bool, sym}
@@ -67,7 +67,7 @@ module _ (T p : ℕ) (es : List Entry) (e : Entry) where
 -- ---- a search from the last entry back, among entries that stand as arrays of their numbers
 module _ (p T : ℕ) where
   -- whether the entry of these numbers is for the place, with a stamp up to T
-  abbrev shows : List ℕ → Bool
+  abbrev pub shows : List ℕ → Bool
   shows numbers = eqb (get_or numbers 1 0) p && leb (get_or numbers 0 0) T
 
   -- the same search along the reversed list
@@ -83,9 +83,10 @@ module _ (p T : ℕ) where
       let front : Rising 0 (readings_at es p) = rising_front 0 (readings_at es p) (readings_at (entry_in x ∷ []) p) (rw (s, readings_append es (entry_in x ∷ []) p) at h) in
       rw (s, f) (found_ahead xs front ∙ sym (last_misses T p es (entry_in x) f)))
 
-  pub found_back : (xs : List (List ℕ)) → Right (entries_in xs)
-      → found (option_map entry_in (find shows (reverse xs))) ≡ shown T (readings_at (entries_in xs) p)
-  found_back xs r =
+  -- what the search finds is what is shown
+  pub found_back : (xs : List (List ℕ)) (o : Option Entry) → Right (entries_in xs) → o ≡ option_map entry_in (find shows (reverse xs))
+      → found o ≡ shown T (readings_at (entries_in xs) p)
+  found_back xs o r f =
       let rising : Rising 0 (readings_at (entries_in xs) p) = right_rising r.points r.all.keptday r.all.last p 0 0 (omega arith) (entries_in xs) r.all.right in
       let e : reverse (reverse xs) ≡ xs = reverse-reverse xs in
-      rw e at (found_ahead (reverse xs) (rw e rising))
+      rw f (rw e at (found_ahead (reverse xs) (rw e rising)))

@@ -137,12 +137,13 @@ entries_take (suc n) (a ∷ b ∷ c ∷ j) h =
     let e : 3 * suc n ≡ suc (suc (suc (3 * n))) = omega arith in
     rw e (cc (entries_take n j (omega arith)))
 
-pub front_entries : (n : ℕ) (j : List ℕ) → 3 * n ≤ length j
-    → entries_in (first_chunks 3 (length (take (3 * n) j) / 3) (take (3 * n) j)) ≡ entries n j
-front_entries n j h =
+-- the arrays that the front of a journal is read as, however the number of its numbers is said
+pub front_entries : (n m : ℕ) (j : List ℕ) → m ≡ 3 * n → 3 * n ≤ length j
+    → entries_in (first_chunks 3 (length (take m j) / 3) (take m j)) ≡ entries n j
+front_entries n m j e h =
     let size : length (take (3 * n) j) ≡ 3 * n = length-take-le (3 * n) j h in
     let many : length (take (3 * n) j) / 3 ≡ n = omega arith in
-    rw many (chunks_entries n (take (3 * n) j) (omega arith) ∙ entries_take n j h)
+    rw (e, many) (chunks_entries n (take (3 * n) j) (omega arith) ∙ entries_take n j h)
 
 -- the entries that are left of `count` once i are passed
 abbrev pub rest : List ℕ → ℕ → ℕ → List Entry

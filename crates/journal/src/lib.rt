@@ -1,9 +1,7 @@
 // The journal: a lent list of numbers, three an entry: stamp, place, and the magnitude that is stored.
 #![tactic(auto)]
 
-ghost use Rattle.std.specs.Prelude.{◌≡◌, ◌&&◌, ℕ, ◌+◌, ◌*◌, ◌/◌, ◌%◌, ◌≤◌, ◌<◌, length, get_or, reverse, leb, ltb, eqb};
-ghost use Rattle.std.specs.List.{find};
-ghost use Rattle.std.specs.Option.{option_map};
+ghost use Rattle.std.specs.Prelude.{◌≡◌, ◌&&◌, ℕ, ◌+◌, ◌*◌, ◌/◌, ◌%◌, ◌≤◌, ◌<◌, length, leb, ltb};
 ghost use Rattle.lists.specs.Place.{placed};
 ghost use Rattle.calendar.specs.Dates.{last_day};
 ghost use Rattle.calendar.specs.Quarters.{quarter_exists};
@@ -52,6 +50,7 @@ impl From<Entry> for [u64; 3] {
 }
 
 // The first `count` entries of a journal, each as its three numbers. The count comes beside the journal since the record of the C interface has it so.
+#[tactic(auto, using(crate::proofs::Stored::front_entries))]
 pub fn entries(journal: &[u64], count: usize) -> &[[u64; 3]]
     requires { 3 * count ≤ length journal.now }
     ensures { entries_in result.now ≡ entries count journal.now }
@@ -68,9 +67,10 @@ pub fn place(point: u64, day: u64, quarter: u64) -> u64
     (point * calendar::DAYS + day) * 100 + (quarter - 1)
 }
 
-// The last entry for a place with a stamp up to `until`.
-fn last(entries: &[[u64; 3]], place: u64, until: u64) -> Option<Entry>
-    ensures { result ≡ option_map entry_in (find (λ numbers. eqb (get_or numbers 1 0) place && leb (get_or numbers 0 0) until) (reverse entries.now)) }
+// The entry shown for a place as of a stamp: the stamps rise, so the last entry for the place with a stamp up to `until` is the newest.
+pub fn shown(entries: &[[u64; 3]], place: u64, until: u64) -> Option<Entry>
+    requires { Right (entries_in entries.now) }
+    ensures { found result ≡ shown until (readings_at (entries_in entries.now) place) }
 {
     entries
         .iter()
@@ -79,21 +79,15 @@ fn last(entries: &[[u64; 3]], place: u64, until: u64) -> Option<Entry>
         .map(|numbers| Entry::from(*numbers))
 }
 
-// The entry shown for a place as of a stamp. The stamps rise, so the last one is the newest.
-pub fn shown(entries: &[[u64; 3]], place: u64, until: u64) -> Option<Entry>
-    requires { Right (entries_in entries.now) }
-    ensures { found result ≡ shown until (readings_at (entries_in entries.now) place) }
-{
-    last(entries, place, until)
-}
-
-// Stores entry number i.
+// Stores entry number i. By its number over a flat list: of arrays that `as_chunks_mut` lends out nothing is known of what the slice ends as.
+#[tactic(auto, using(std::proofs::lemmas::Slice::overwrites), unfolding(lists::specs::Place::placed))]
 pub fn put(journal: &mut [u64], i: usize, entry: Entry)
     requires { 3 * i + 3 ≤ length journal.old }
     ensures { journal.new ≡ placed (3 * i) (numbers entry) journal.old }
 {
     let at = ENTRY * i;
-    journal[at..at + ENTRY].copy_from_slice(&<[u64; 3]>::from(entry));
+    let numbers: [u64; ENTRY] = entry.into();
+    journal[at..at + ENTRY].copy_from_slice(&numbers);
 }
 
 // Whether a day has a quarter, both as one number, day × 100 + quarter − 1. Every day has the first 92, so only for later ones the calendar is asked.
