@@ -3,7 +3,7 @@
 
 ghost use Rattle.std.specs.Prelude.{◌≡◌, ◌+◌, ◌≤◌, ◌<◌, ◌^◌, eqb, length, position, sum};
 ghost use Rattle.columns.specs.Fields.{total, columns_of, numbers_in};
-ghost use Rattle.lists.specs.Pages.{Added};
+ghost use Rattle.lists.specs.Pages.{Room, Added};
 ghost use Rattle.lines.specs.Line.{first_line, after_line};
 ghost use Rattle.lines.specs.Lines.{line_of, is_framed, line_in};
 
@@ -34,7 +34,7 @@ impl<const N: usize> Format<N> {
 
     // Puts a line of this format with these numbers on a page.
     pub fn put(&self, page: &mut Page<u8>, numbers: [u64; N])
-        requires { page.old.end + (total self.now.widths + 2) ≤ length page.old.space.now }
+        requires { Room (total self.now.widths + 2) page.old }
         ensures { Added (line_of self.now.letter self.now.widths numbers.entry) page.old page.new }
     {
         page.put(&[self.letter]);
@@ -50,7 +50,8 @@ fn line_feed(text: &[u8]) -> Option<usize>
     text.iter().position(|byte| *byte == LINE_FEED)
 }
 
-// The first line of a text, with its LF, and the text after it.
+// The first line of a text, with its LF, and the text after it: whoever reads a registration, or looks for its end, needs the text that is left, which the
+// library's `split_inclusive` does not give.
 pub fn split_line(text: &[u8]) -> (&[u8], &[u8])
     ensures line { result.0.now ≡ first_line text.now }
     ensures rest { result.1.now ≡ after_line text.now }
@@ -74,7 +75,8 @@ fn total(widths: &[usize]) -> usize
     widths.iter().sum()
 }
 
-// The numbers in the columns of these widths at the front of the bytes.
+// The numbers in the columns of these widths at the front of the bytes. The index stays: as `numbers.iter_mut().zip(widths)` its proof did not close, since
+// of what is written through that iterator nothing is known.
 pub fn read_columns<const N: usize>(bytes: &[u8], widths: &[usize; N]) -> Option<[u64; N]>
     requires { total widths.now ≤ length bytes.now }
     ensures { result ≡ numbers_in widths.now bytes.now }
@@ -91,7 +93,7 @@ pub fn read_columns<const N: usize>(bytes: &[u8], widths: &[usize; N]) -> Option
 
 // Puts numbers in columns of these widths on a page.
 pub fn put_columns<const N: usize>(page: &mut Page<u8>, widths: &[usize; N], numbers: &[u64; N])
-    requires { page.old.end + total widths.now ≤ length page.old.space.now }
+    requires { Room (total widths.now) page.old }
     ensures { Added (columns_of widths.now numbers.now) page.old page.new }
 {
     for (width, number) in widths.iter().zip(numbers) {
