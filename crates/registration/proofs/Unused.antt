@@ -1,17 +1,22 @@
 -- Where a registration whose unused numbers are 0 has zeros: after its consumers, and after the producers that each names. Assumes nothing.
-use Prim.Native.Nat.{ℕ, ◌+◌, ◌*◌, ◌/◌, ◌%◌, ◌≤◌, ◌<◌}
-use mathlib.Core.Path.{◌≡◌}
+use Prim.Native.Nat.{ℕ, ◌+◌, ◌-◌, ◌*◌, ◌/◌, ◌%◌, ◌≤◌, ◌<◌}
+use mathlib.Core.Path.{◌≡◌, sym, ◌∙◌}
 use mathlib.Core.Bool.{Bool, true, false, ◌&&◌, ◌||◌}
 use mathlib.Core.List.{List}
 use native.Mathlib.Omega.{arith}
 use native.Mathlib.Nat.{div-add-mod, mod-lt}
-use borrow.Author.Tests.{le-ltb, eqb-true}
+use borrow.Author.Tests.{lt-ltb, le-ltb, ltb-true, ltb-false, eqb-true}
 use lib.Dec.{ltb, eqb}
-use lib.ListN.{get_or}
+use lib.ListN.{length, take, drop, get_or, length-drop}
+use Rattle.std.specs.List.{list_all}
+use Rattle.std.proofs.lemmas.List.{take_all, drop_all}
 use Rattle.lists.specs.Below.{every}
-use Rattle.lists.proofs.Below.{both, every_at}
+use Rattle.lists.proofs.Cases.{by_test}
+use Rattle.lists.proofs.Below.{both, or_early, every_at, every_all, every_same}
+use Rattle.lists.proofs.Chains.{every_drop}
 use Rattle.registration.specs.declared.Registration.{Registration}
-use Rattle.registration.specs.Rules.{points, count_at, source_at, key_at}
+use Rattle.registration.specs.declared.Pair.{Pair}
+use Rattle.registration.specs.Rules.{points, count_at, source_at, key_at, pair_at, no_pair}
 use Rattle.registration.specs.Damage.{zeros_from, pairs_unused, unused_zero}
 
 -- after the producers that a consumer names there are zeros
@@ -26,6 +31,38 @@ pub zeros_at : (size n : ℕ) (xs : List ℕ) → zeros_from size n xs ≡ true 
 zeros_at size n xs t i h l =
     eqb-true (get_or xs i 0) 0
     (or_else (ltb i n) (eqb (get_or xs i 0) 0) (le-ltb i n h) (every_at (λ place. ltb place n || eqb (get_or xs place 0) 0) size i t l))
+
+-- whether what is left of a list from place n on is zeros
+abbrev pub zeros_left : ℕ → ℕ → List ℕ → Bool
+zeros_left size n xs = list_all (λ number. eqb number 0) (take (size - n) (drop n xs))
+
+zeros_from_left : (size n : ℕ) (xs : List ℕ) → length xs ≡ size → n ≤ size → zeros_from size n xs ≡ zeros_left size n xs
+zeros_from_left size n xs l h =
+    let all : take (size - n) (drop n xs) ≡ drop n xs = take_all (size - n) (drop n xs) (omega (arith, length-drop n xs)) in
+    rw all (rw l at (every_drop (λ number. eqb number 0) xs 0 n (omega arith)))
+
+-- every unused number is 0 where what is left of each array after the numbers used is zeros
+pub unused_left : (r : Registration) (n : ℕ) → n ≡ points r → n ≤ 64 → length r.codes ≡ 64 → length r.statuses ≡ 64 → length r.counts ≡ 64
+    → unused_zero r ≡ zeros_left 64 n r.codes && zeros_left 64 n r.statuses && zeros_left 64 r.consumers r.counts && every (pairs_unused r) 64
+unused_left r n e h codes statuses counts =
+    rw (← e, zeros_from_left 64 n r.codes codes h, zeros_from_left 64 n r.statuses statuses h, zeros_from_left 64 r.consumers r.counts counts (omega arith))
+
+-- after the producers that a consumer names its places hold only zeros where the pairs left after those are none
+pub pairs_left : (r : Registration) (consumer : ℕ) (pairs : List Pair) → length pairs ≡ 5
+    → ((k : ℕ) → k < 5 → get_or pairs k no_pair ≡ pair_at r consumer k)
+    → list_all (λ pair. eqb pair.source 0 && eqb pair.key 0) (drop (count_at r consumer) pairs) ≡ pairs_unused r consumer
+pairs_left r consumer pairs size at =
+    let count = count_at r consumer in
+    let test = λ (pair : Pair). eqb pair.source 0 && eqb pair.key 0 in
+    by_test (ltb 5 count)
+    (λ t.
+    let l : 5 < count = ltb-true 5 count t in
+    rw (drop_all count pairs (omega arith))
+    (sym (every_all (λ k. ltb k count || test (pair_at r consumer k)) 5 (λ k h. or_early (ltb k count) _ (lt-ltb k count (omega arith))))))
+    (λ t.
+    let l : count ≤ 5 = ltb-false 5 count t in
+    sym (rw size at (every_drop test pairs no_pair count (omega arith)))
+    ∙ every_same (λ k. ltb k count || test (get_or pairs k no_pair)) _ 5 (λ k h. rw (at k h)))
 
 pub unused_at : (r : Registration) (c : ℕ) → pairs_unused r c ≡ true → Unused r c
 unused_at r c t k h l =

@@ -5,12 +5,6 @@ use mathlib.Core.Path.{◌≡◌}
 use Rattle.registration.proofs.Digits.{digit_bound, weighted_end, weighted_turn}
 use Rattle.registration.proofs.weighted_sum.Goals as goal
 
-pub overflow_mul-sum : goal.overflow_mul-sum
-overflow_mul-sum c = omega (arith, digit_bound _ c.loop.rest c.loop.invariant.most)
-
-pub overflow_add-sum : goal.overflow_add-sum
-overflow_add-sum c = omega (arith, digit_bound _ c.loop.rest c.loop.invariant.most)
-
 pub loop-preserved : goal.loop-preserved
 loop-preserved c =
     let l = c.loop in
