@@ -1,5 +1,6 @@
 pub mod Sound
 pub mod Undamaged
+pub mod Tests
 pub mod Admitted
 pub mod Laws
 pub mod Cases

@@ -1,17 +1,10 @@
 -- A group that is not sound is damaged, and past the other tests its entries tell. Assumes nothing.
 use Prim.Native.Nat.{ℕ, ◌*◌, ◌≤◌}
 use mathlib.Core.Path.{◌≡◌}
-use mathlib.Core.Bool.{true, false}
+use mathlib.Core.Bool.{false}
 use native.Mathlib.Omega.{arith}
 use mathlib.Core.List.{List}
 use lib.ListN.{length}
-use lib.Dec.{leb, ltb}
-use Rattle.std.specs.Prelude.{◌&&◌, Result, Err}
-use Rattle.std.proofs.lemmas.Grind.{common_steps}
-use Rattle.answers.specs.declared.Refusal.{Refusal}
-use Rattle.answers.specs.Order.{refuse◌if◌else◌}
-use Rattle.answers.proofs.Refusals.{order}
-use Rattle.calendar.specs.Dates.{last_day}
 use Rattle.lists.proofs.TableLaws.{length_table}
 use Rattle.registration.specs.declared.Registration.{Registration}
 use Rattle.registration.specs.Rules.{points, code_at}
@@ -22,33 +15,15 @@ use Rattle.journal.proofs.Stored.{length_entries}
 use Rattle.group.specs.declared.Numbers.{Numbers}
 use Rattle.group.specs.Held.{group_in}
 use Rattle.group.specs.Group.{Group}
-use Rattle.group.specs.Refusals.{damaged}
-use Rattle.group.proofs.Sound.{Sound, undamaged_sound}
+use Rattle.group.proofs.Sound.{Sound}
 
 -- a registration that is not damaged has at most 64 points
 pub few : (r : Registration) → is_damaged r ≡ false → points r ≤ 64
 few r e = (point_bounds _ _ (undamaged_parts r e).point_counts).2
 
--- a stamp outside of what can be shown, and one within
-module _ {T : Type 0} (n : Refusal) (p s l : ℕ) (m : Result T Refusal) where
-  pub outside : (leb p s && leb s l) ≡ false → refuse n if ltb s p else refuse n if ltb l s else m ≡ Err n
-  unfolding refuse◌if◌else◌
-  outside e = grind (arith, common_steps, order)
-
-  pub inside : (leb p s && leb s l) ≡ true → refuse n if ltb s p else refuse n if ltb l s else m ≡ m
-  unfolding refuse◌if◌else◌
-  inside e = grind (arith, common_steps, order)
-
--- a group that is not damaged has a kept day of the calendar, and at most 64 points
-pub kept_day_most : (last : ℕ) (G : Group) → damaged last G ≡ false → G.keptday ≤ last_day
-kept_day_most last G e = (undamaged_sound last G e).kept_day
-
-pub few_of : (last : ℕ) (G : Group) → damaged last G ≡ false → points G.registration ≤ 64
-few_of last G e = few G.registration (undamaged_sound last G e).registered
-
 -- a sound group has at most 64 points
 pub few_points : (last : ℕ) (G : Group) → Sound last G → points G.registration ≤ 64
-few_points last G k = (point_bounds _ _ (undamaged_parts _ k.registered).point_counts).2
+few_points last G k = few G.registration k.registered
 
 -- the entries of a sound group are right, for its number of points, and fit into its journal
 pub right_for : (last : ℕ) (G : Group) → points G.registration ≤ 64 → Sound last G → RightFor (points G.registration) G.entries

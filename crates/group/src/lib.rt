@@ -14,7 +14,7 @@ ghost use Rattle.values.specs.Values.{magnitude_most};
 ghost use Rattle.group.specs.Held.{held};
 ghost use Rattle.group.specs.Refusals.{damaged, full, earliest, submission_verdict, clear_verdict, evaluation_verdict};
 ghost use Rattle.group.specs.Stamps.{stamp_most};
-ghost use Rattle.group.specs.Working.{looked_of, repeated};
+ghost use Rattle.group.specs.Working.{soundness, looked_of, repeated};
 
 use answers::Refusal;
 use journal::Entry;
@@ -86,14 +86,23 @@ impl<'a> Group<'a> {
             )
     }
 
-    // The tests of a submission, and what it comes to if it passes them.
-    #[tactic(auto, using(answers::proofs::Refusals::order, crate::proofs::Looking::looking), unfolding(crate::specs::Refusals::submission_verdict))]
-    pub fn look(&self, clock: u64, measurement: Measurement) -> Result<Looked, Refusal>
-        ensures { result ≡ result_and (submission_verdict self.now.last (held self.now) clock measurement) (Ok (looked_of self.now.last (held self.now) clock measurement)) }
+    // A damaged group is refused.
+    #[tactic(auto, using(answers::proofs::Refusals::order), unfolding(crate::specs::Working::soundness))]
+    fn sound(&self) -> Result<(), Refusal>
+        ensures { result ≡ soundness self.now.last (held self.now) }
     {
         if self.damaged() {
             return Err(Refusal::Damaged);
         }
+        Ok(())
+    }
+
+    // The tests of a submission, and what it comes to if it passes them.
+    #[tactic(auto, using(crate::proofs::Tests::tests_of_submission, crate::proofs::Looking::looking), unfolding(crate::specs::Refusals::submission_verdict))]
+    pub fn look(&self, clock: u64, measurement: Measurement) -> Result<Looked, Refusal>
+        ensures { result ≡ result_and (submission_verdict self.now.last (held self.now) clock measurement) (Ok (looked_of self.now.last (held self.now) clock measurement)) }
+    {
+        self.sound()?;
         let Measurement {
             code,
             day,
@@ -113,24 +122,16 @@ impl<'a> Group<'a> {
         if !self.clock_right(clock) {
             return Err(Refusal::ClockOutside);
         }
-        let place = journal::place(point as u64, day, quarter);
-        let magnitude = value.unsigned_abs();
-        if let Some(stamp) = self.repeated(place, magnitude) {
-            return Ok(Looked::Repeat(Entry {
-                stamp,
-                place,
-                stored: magnitude,
-            }));
+        let new = Entry {
+            stamp: clock.max(self.last + 1),
+            place: journal::place(point as u64, day, quarter),
+            stored: value.unsigned_abs(),
+        };
+        match self.repeated(new.place, new.stored) {
+            Some(stamp) => Ok(Looked::Repeat(Entry { stamp, ..new })),
+            None if self.full() => Err(Refusal::JournalFull),
+            None => Ok(Looked::New(new)),
         }
-        if self.full() {
-            return Err(Refusal::JournalFull);
-        }
-        let stamp = clock.max(self.last + 1);
-        Ok(Looked::New(Entry {
-            stamp,
-            place,
-            stored: magnitude,
-        }))
     }
 
     // The stamp of the reading that a place shows, where that has this value.
@@ -138,12 +139,9 @@ impl<'a> Group<'a> {
         requires { (3 * self.now.numbers.entries ≤ length self.now.journal.now) × Right (held self.now).entries }
         ensures { result ≡ repeated (shown self.now.last (readings_at (held self.now).entries place)) stored }
     {
-        let before = journal::shown(self.entries(), place, self.last)?;
-        if before.stored == stored {
-            Some(before.stamp)
-        } else {
-            None
-        }
+        journal::shown(self.entries(), place, self.last)
+            .filter(|before| before.stored == stored)
+            .map(|before| before.stamp)
     }
 
     // Whether a value suits a point, by its sign and its magnitude.
@@ -161,30 +159,27 @@ impl<'a> Group<'a> {
         clock <= STAMP_MOST && self.last != STAMP_MOST
     }
 
-    // Whether fewer numbers of the journal are left than an entry has.
+    // Whether the journal has no room for one more entry: fewer numbers are left than one has.
     #[tactic(auto, using(journal::proofs::Stored::length_entries))]
     fn full(&self) -> bool
-        requires { 3 * self.now.numbers.entries ≤ length self.now.journal.now }
         ensures { result ≡ full (held self.now) }
     {
-        self.journal.len() - journal::ENTRY * self.numbers.entries < journal::ENTRY
+        self.journal.len() / journal::ENTRY <= self.numbers.entries
     }
 
     // Whether what was shown as of a stamp is kept: the stamp is not below the kept one, and not above the last.
     fn keeps(&self, stamp: u64) -> bool
         ensures { result ≡ (leb self.now.numbers.kept_stamp stamp && leb stamp self.now.last) }
     {
-        self.numbers.kept_stamp <= stamp && stamp <= self.last
+        (self.numbers.kept_stamp..=self.last).contains(&stamp)
     }
 
     // The tests of a clear.
-    #[tactic(auto, using(answers::proofs::Refusals::order, crate::proofs::Undamaged::outside, crate::proofs::Undamaged::inside), unfolding(crate::specs::Refusals::clear_verdict))]
+    #[tactic(auto, using(crate::proofs::Tests::tests), unfolding(crate::specs::Refusals::clear_verdict))]
     pub fn clear_verdict(&self, day: u64, stamp: u64) -> Result<(), Refusal>
         ensures { result ≡ clear_verdict self.now.last (held self.now) day stamp }
     {
-        if self.damaged() {
-            return Err(Refusal::Damaged);
-        }
+        self.sound()?;
         if calendar::LAST_DAY < day {
             return Err(Refusal::NoSuchDay);
         }
@@ -198,13 +193,11 @@ impl<'a> Group<'a> {
     }
 
     // The tests of an evaluation, whose result is put into a list of so many numbers.
-    #[tactic(auto, using(answers::proofs::Refusals::order, crate::proofs::Undamaged::outside, crate::proofs::Undamaged::inside, crate::proofs::Undamaged::kept_day_most, crate::proofs::Undamaged::few_of), unfolding(crate::specs::Refusals::evaluation_verdict))]
+    #[tactic(auto, using(crate::proofs::Tests::tests, crate::proofs::Tests::kept_day_most, crate::proofs::Tests::few_of), unfolding(crate::specs::Refusals::evaluation_verdict))]
     pub fn evaluation_verdict(&self, asked: Asked, lent: &[u64]) -> Result<(), Refusal>
         ensures { result ≡ evaluation_verdict self.now.last (held self.now) asked.day asked.quarter asked.until lent.now }
     {
-        if self.damaged() {
-            return Err(Refusal::Damaged);
-        }
+        self.sound()?;
         if !calendar::exists(asked.day, asked.quarter) {
             return Err(Refusal::NoSuchDay);
         }
@@ -229,14 +222,14 @@ fn find(registration: &Registration, code: u64) -> Option<usize>
     points::find(&registration.codes[..registration.points()], code)
 }
 
-// The earliest day that can be evaluated: the four weeks before it are not cleared.
+// The earliest day that can be evaluated: the four weeks before it are not cleared. Kept day 0 says that no day is, as the record of the C interface has it.
 #[tactic(auto, unfolding(crate::specs::Refusals::earliest))]
 fn earliest(kept: u64) -> u64
     requires { kept ≤ last_day }
     ensures { result ≡ earliest kept }
 {
-    if kept == 0 {
-        return 0;
+    match kept {
+        0 => 0,
+        kept => kept + DAYS_BEFORE,
     }
-    kept + DAYS_BEFORE
 }
