@@ -1,10 +1,6 @@
 -- The reply to an event: the refusal where it asks for no call, otherwise what its call leaves and answers. Assumes nothing.
-use Rattle.std.proofs.Common.{ℕ, ℤ, ◌≡◌, refl, sym, List, ◌++◌, append-nil, true, false, Option, None, Some, Result, Ok, Err}
-use Rattle.std.specs.Option.{ok_or}
+use Rattle.std.proofs.Common.{ℕ, ◌≡◌, refl, sym, List, ◌++◌, append-nil, true, false, Option, None, Some, Result, Ok, Err}
 use Rattle.std.specs.Result.{result_and, result_unwrap_or, is_ok}
-use mir.Syntax.{w64}
-use mir.Val.{SFits, to_z, of_z}
-use mir.ValLaws.{to_z-of_z}
 use Rattle.answers.specs.declared.Refusal.{Refusal}
 use Rattle.answers.specs.declared.Refusal.TheVariants.{NoSuchDay}
 use Rattle.answers.specs.Numbers.{Verdict, number_of, answer_of}
@@ -16,50 +12,28 @@ use Rattle.service.specs.declared.Service.{Service}
 use Rattle.service.specs.Call.{Call, Seen}
 use Rattle.service.specs.Call.{Submission as Submit, Clear as ClearUp, Evaluation as Evaluate}
 use Rattle.service.specs.Record.{call_on}
-use Rattle.service.specs.Promises.{Submits, Clears, Evaluates}
 use Rattle.service.proofs.Evaluating.{evaluation_alters_nothing}
 use Rattle.service.proofs.Answered.{number_answered, verdict_answered}
 use Rattle.calendar.specs.Dates.{day_of}
+use Rattle.event_reader.specs.declared.Submission.{Submission as SubmissionLine}
+use Rattle.event_reader.specs.declared.Clear.{Clear as ClearLine}
+use Rattle.event_reader.specs.declared.Evaluation.{Evaluation as EvaluationLine}
 use Rattle.event_reader.specs.declared.Event.{Event}
 use Rattle.event_reader.specs.declared.Event.TheVariants.{Submission, Clear, Evaluation}
 use Rattle.event_writer.specs.Answers.{line_a, line_r, lines_of_result}
 use Rattle.event_calls.specs.Replies.{on_day, measured, call_of, refusal_text, answer_text, result_text, evaluation_text, call_text, result_list, reply_with, reply_of}
-use Rattle.event_calls.specs.Promises.{Calls, Replied}
+use Rattle.event_calls.specs.Promises.{Calls, Evaluated, Replied}
 
--- ---- the day of a date, as the code asks for it
+-- the call of an E line on a day, and what is seen of it
+abbrev asked_on : EvaluationLine → (day : ℕ) → Call
+asked_on asked day = Evaluate day asked.quarter asked.until result_list
 
-pub day_missing : (day : Option ℕ) (r other : Refusal) → Err other ≡ ok_or day r → (day ≡ None) × (other ≡ r)
-day_missing None r other e = (refl, cc)
-day_missing (Some day) r other e = cc
+abbrev seen_on : Service → (journal : List ℕ) → EvaluationLine → (day : ℕ) → Seen
+seen_on s j asked day = (call_on s j (asked_on asked day)).seen
 
-pub day_there : (found : Option ℕ) (day : ℕ) (r : Refusal) → Ok day ≡ ok_or found r → found ≡ Some day
-day_there None day r e = cc
-day_there (Some found) day r e = cc
-
--- ---- the calls, as the code makes them
-
-module _ (s : Service) (j : List ℕ) where
-  -- there is no such day
-  pub calls_none : (date : ℕ) (call : ℕ → Call) → day_of date ≡ None → Calls s j (on_day (day_of date) call) s (Err NoSuchDay) j
-  calls_none date call e = rw e (record { service = refl; answers = refl; journal = refl })
-
-  module _ (date day : ℕ) (e : day_of date ≡ Some day) (s' : Service) (answer : Result ℕ Refusal) (j' : List ℕ) where
-    -- the value of a submission goes through the bits of an i64
-    pub calls_submission : (clock code quarter : ℕ) (value : ℤ) → SFits w64 value
-        → Submits s j clock (measured code quarter (to_z w64 (of_z w64 value)) day) s' answer j'
-        → Calls s j (call_of (Some (Submission clock code date quarter value))) s' answer j'
-    calls_submission clock code quarter value f made =
-        let known = rw (to_z-of_z w64 value f) at made in
-        rw e (record { service = known.service; answers = known.answers; journal = known.journal })
-
-    pub calls_clear : (stamp : ℕ) → Clears s j day stamp s' answer j' → Calls s j (call_of (Some (Clear date stamp))) s' answer j'
-    calls_clear stamp made = rw e (record { service = made.service; answers = made.answers; journal = made.journal })
-
--- ---- the reply
-
--- what is seen of an evaluation
-abbrev seen_at : Service → (journal : List ℕ) → (day quarter T : ℕ) → Seen
-seen_at s j day quarter T = (call_on s j (Evaluate day quarter T result_list)).seen
+-- the reply to an E line, by the day of its date
+abbrev RepliedOn : Service → (journal : List ℕ) → EvaluationLine → Option ℕ → (before after : Page ℕ) → Type 0
+RepliedOn s j asked day before after = Replied (reply_with s j (Some (Evaluation asked)) (on_day day (asked_on asked))) s j before after
 
 -- the text of an evaluation by its verdict, which its answer tells: the R line alone, or with the lines of the result after it
 module _ {before after : Page ℕ} where
@@ -88,46 +62,45 @@ module _ (s : Service) (j : List ℕ) {before after : Page ℕ} where
         bytes = rw t (rw (made.answers, verdict_answered s j (call day), number_answered s j (call day)) at p);
       }
 
-  pub replied_submission : (clock code date quarter : ℕ) (value : ℤ) (s' : Service) (answer : Result ℕ Refusal) (j' : List ℕ) → SFits w64 value
-      → Calls s j (call_of (Some (Submission clock code date quarter (to_z w64 (of_z w64 value))))) s' answer j'
-      → Added (line_a (answer_of answer) (result_unwrap_or answer 0)) before after
-      → Replied (reply_of s j (Some (Submission clock code date quarter value))) s' j' before after
-  replied_submission clock code date quarter value s' answer j' f made p =
-      replied_by_a (Some (Submission clock code date quarter value)) (λ day. Submit clock (measured code quarter value day)) (day_of date) s' answer j' refl
-      (λ day seen. refl) (rw (to_z-of_z w64 value f) at made) p
+  pub replied_submission : (asked : SubmissionLine) (s' : Service) (answer : Result ℕ Refusal) (j' : List ℕ)
+      → Calls s j (call_of (Some (Submission asked))) s' answer j' → Added (line_a (answer_of answer) (result_unwrap_or answer 0)) before after
+      → Replied (reply_of s j (Some (Submission asked))) s' j' before after
+  replied_submission asked s' answer j' made p =
+      replied_by_a (Some (Submission asked)) (λ day. Submit asked.clock (measured asked day)) (day_of asked.date) s' answer j' refl (λ day seen. refl) made p
 
-  pub replied_clear : (date stamp : ℕ) (s' : Service) (answer : Result ℕ Refusal) (j' : List ℕ) → Calls s j (call_of (Some (Clear date stamp))) s' answer j'
-      → Added (line_a (answer_of answer) (result_unwrap_or answer 0)) before after → Replied (reply_of s j (Some (Clear date stamp))) s' j' before after
-  replied_clear date stamp s' answer j' made p =
-      replied_by_a (Some (Clear date stamp)) (λ day. ClearUp day stamp) (day_of date) s' answer j' refl (λ day seen. refl) made p
+  pub replied_clear : (asked : ClearLine) (s' : Service) (answer : Result ℕ Refusal) (j' : List ℕ) → Calls s j (call_of (Some (Clear asked))) s' answer j'
+      → Added (line_a (answer_of answer) (result_unwrap_or answer 0)) before after → Replied (reply_of s j (Some (Clear asked))) s' j' before after
+  replied_clear asked s' answer j' made p =
+      replied_by_a (Some (Clear asked)) (λ day. ClearUp day asked.stamp) (day_of asked.date) s' answer j' refl (λ day seen. refl) made p
 
   -- an evaluation leaves record and journal as they are
-  module _ (date day quarter T : ℕ) (e : Some day ≡ day_of date) where
-    replied_evaluation : Added (evaluation_text s.registration (seen_at s j day quarter T)) before after → Replied (reply_of s j (Some (Evaluation date quarter T))) s j before after
-    replied_evaluation p =
-        let same = evaluation_alters_nothing s j day quarter T result_list in
-        rw (← e) (record { service = sym same.0; journal = sym same.1; bytes = p })
+  module _ (asked : EvaluationLine) (answer : Result ℕ Refusal) (numbers : List ℕ) where
+    replied_on : (day : ℕ) → Added (evaluation_text s.registration (seen_on s j asked day)) before after → RepliedOn s j asked (Some day) before after
+    replied_on day p =
+        let same = evaluation_alters_nothing s j day asked.quarter asked.until result_list in
+        record { service = sym same.0; journal = sym same.1; bytes = p }
 
-    module _ (answer : Result ℕ Refusal) (numbers : List ℕ) (made : Evaluates s j (record { day = day; quarter = quarter; until = T }) result_list answer numbers) where
+    refused_on : (day : Option ℕ) → Evaluated s j (on_day day (asked_on asked)) answer numbers → is_ok answer ≡ false
+        → Added (line_r (answer_of answer) (result_unwrap_or answer 0)) before after → RepliedOn s j asked day before after
+    refused_on None made k p = record { service = refl; journal = refl; bytes = rw made.answers at p }
+    refused_on (Some day) made k p =
+        let seen = seen_on s j asked day in
+        replied_on day (refused_text seen.verdict seen.number s.registration _ seen.result (rw made.answers at k)
+        (rw (made.answers, verdict_answered s j (asked_on asked day), number_answered s j (asked_on asked day)) at p))
+
+    accepted_on : (day : Option ℕ) {between : Page ℕ} → Evaluated s j (on_day day (asked_on asked)) answer numbers → is_ok answer ≡ true
+        → Added (line_r (answer_of answer) (result_unwrap_or answer 0)) before between → Added (lines_of_result s.registration numbers) between after → RepliedOn s j asked day before after
+    accepted_on None made k p q = let z = rw made.answers at k in cc
+    accepted_on (Some day) made k p q =
+        let seen = seen_on s j asked day in
+        replied_on day (accepted_text seen.verdict seen.number s.registration _ seen.result (rw made.answers at k)
+        (rw (made.answers, verdict_answered s j (asked_on asked day), number_answered s j (asked_on asked day)) at p) (rw (made.result k) at q))
+
+    module _ (made : Evaluated s j (call_of (Some (Evaluation asked))) answer numbers) where
       pub replied_refused : is_ok answer ≡ false → Added (line_r (answer_of answer) (result_unwrap_or answer 0)) before after
-          → Replied (reply_of s j (Some (Evaluation date quarter T))) s j before after
-      replied_refused k p =
-          let call = Evaluate day quarter T result_list in
-          replied_evaluation (refused_text (seen_at s j day quarter T).verdict (seen_at s j day quarter T).number s.registration _ (seen_at s j day quarter T).result (rw made.answers at k)
-          (rw (made.answers, verdict_answered s j call, number_answered s j call) at p))
+          → Replied (reply_of s j (Some (Evaluation asked))) s j before after
+      replied_refused = refused_on (day_of asked.date) made
 
       pub replied_accepted : {between : Page ℕ} → is_ok answer ≡ true → Added (line_r (answer_of answer) (result_unwrap_or answer 0)) before between
-          → Added (lines_of_result s.registration numbers) between after → Replied (reply_of s j (Some (Evaluation date quarter T))) s j before after
-      replied_accepted k p q =
-          let call = Evaluate day quarter T result_list in
-          replied_evaluation (accepted_text (seen_at s j day quarter T).verdict (seen_at s j day quarter T).number s.registration _ (seen_at s j day quarter T).result (rw made.answers at k)
-          (rw (made.answers, verdict_answered s j call, number_answered s j call) at p) (rw made.result at q))
-
--- the reply to a malformed line, and to an event that is known
-module _ (s : Service) (j : List ℕ) {s' : Service} {j' : List ℕ} {before after : Page ℕ} (event : Option Event) where
-  pub by_none : event ≡ None → Replied (reply_of s j None) s' j' before after → Replied (reply_of s j event) s' j' before after
-  by_none e p = rw e p
-
-  pub by_event : (field known : Event) → event ≡ Some field → field ≡ known → Replied (reply_of s j (Some known)) s' j' before after
-      → Replied (reply_of s j event) s' j' before after
-  by_event field known e f p = rw (e, f) p
+          → Added (lines_of_result s.registration numbers) between after → Replied (reply_of s j (Some (Evaluation asked))) s j before after
+      replied_accepted k p q = accepted_on (day_of asked.date) made k p q

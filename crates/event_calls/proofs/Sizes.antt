@@ -4,14 +4,13 @@ use mathlib.Core.Path.{◌≡◌, refl, sym, ap, ◌∙◌}
 use mathlib.Core.Bool.{true, false}
 use mathlib.Core.List.{List}
 use native.Mathlib.Omega.{arith}
-use Rattle.std.specs.Prelude.{Result, Ok, Err}
+use Rattle.std.specs.Prelude.{Option, None, Some, Result, Ok, Err}
 use Rattle.std.specs.Result.{result_and, is_ok}
 use Rattle.answers.specs.declared.Refusal.{Refusal}
 use Rattle.answers.specs.Numbers.{Verdict}
-use Rattle.lookup.specs.declared.Asked.{Asked}
 use Rattle.lists.proofs.Below.{and_left, every_at, sum_bound}
 use Rattle.registration.specs.declared.Registration.{Registration}
-use Rattle.registration.specs.Rules.{count_at, count_right, consumer_right}
+use Rattle.registration.specs.Rules.{points, count_at, count_right, consumer_right}
 use Rattle.registration.specs.Damage.{is_damaged}
 use Rattle.registration.proofs.Damage.{undamaged_parts, point_bounds}
 use Rattle.registration.proofs.Bounds.{count_bounds}
@@ -22,16 +21,16 @@ use Rattle.service.specs.Call.{Evaluation, is_refused, refused}
 use Rattle.group.specs.Refusals.{evaluation_verdict}
 use Rattle.service.specs.Calls.{evaluated, step}
 use Rattle.service.specs.Record.{group_of, call_on}
-use Rattle.service.specs.Promises.{Evaluates}
 use Rattle.service.proofs.ReadAgain.{through}
 use Rattle.service.proofs.Accepted.{accepted_verdict}
 use Rattle.service.proofs.Cores.{evaluation_sound}
 use Rattle.event_writer.specs.Answers.{bytes_of_rounds, bytes_of_result}
-use Rattle.event_calls.specs.Promises.{answer_most}
+use Rattle.event_calls.specs.Replies.{on_day}
+use Rattle.event_calls.specs.Promises.{answer_most, Evaluated}
 
 -- the numbers and bytes of a group's results are within what they are given room for
 pub record Small (r : Registration) : Type 0 where
-  pub points : r.producers + r.consumers ≤ 64
+  pub points : points r ≤ 64
   pub counts : (consumer : ℕ) → consumer < r.consumers → count_at r consumer ≤ 5
   pub size : size_of r ≤ result_most
   pub bytes : bytes_of_rounds + bytes_of_result r ≤ answer_most
@@ -70,9 +69,10 @@ accepted_ok : (verdict : Verdict) (number : ℕ) → is_ok (result_and verdict (
 accepted_ok (Ok _) number e = refl
 accepted_ok (Err refusal) number e = cc
 
--- the same of what the code's evaluation answers
-pub evaluates_small : (s : Service) (j : List ℕ) (asked : Asked) (lent : List ℕ) (answer : Result ℕ Refusal) (lent' : List ℕ)
-    → Evaluates s j asked lent answer lent' → is_ok answer ≡ true → Small s.registration
-evaluates_small s j asked lent answer lent' k e =
-    let seen = (call_on s j (Evaluation asked.day asked.quarter asked.until lent)).seen in
-    evaluation_small s j asked.day asked.quarter asked.until lent (accepted_ok seen.verdict seen.number (rw k.answers at e))
+-- the same of what the code's evaluation answers, on the day of a date
+pub evaluated_small : (s : Service) (j : List ℕ) (day : Option ℕ) (quarter T : ℕ) (lent : List ℕ) (answer : Result ℕ Refusal) (numbers : List ℕ)
+    → Evaluated s j (on_day day (λ day. Evaluation day quarter T lent)) answer numbers → is_ok answer ≡ true → Small s.registration
+evaluated_small s j None quarter T lent answer numbers made e = let z = rw made.answers at e in cc
+evaluated_small s j (Some day) quarter T lent answer numbers made e =
+    let seen = (call_on s j (Evaluation day quarter T lent)).seen in
+    evaluation_small s j day quarter T lent (accepted_ok seen.verdict seen.number (rw made.answers at e))

@@ -1,5 +1,6 @@
 -- What answering an event promises, for any record, journal and buffer that has room. Assumes nothing.
 use Rattle.std.specs.Prelude.{ℕ, ◌≡◌, List, [], length, Option, None, Some, Result, Err}
+use Rattle.std.specs.Result.{IsOk}
 use Rattle.answers.specs.declared.Refusal.{Refusal}
 use Rattle.answers.specs.declared.Refusal.TheVariants.{NoSuchDay}
 use Rattle.lists.specs.declared.Page.{Page}
@@ -25,6 +26,11 @@ pub record Calls (s : Service) (j : List ℕ) (call : Option Call) (s' : Service
   pub service : s' ≡ (left_by s j call).service
   pub answers : answer ≡ answered (left_by s j call).seen
   pub journal : j' ≡ (left_by s j call).journal
+
+-- an evaluation on the day of a date was made, which alters neither record nor journal: its answer, and, where it is accepted, the result list
+pub record Evaluated (s : Service) (j : List ℕ) (call : Option Call) (answer : Result ℕ Refusal) (numbers : List ℕ) : Type 0 where
+  pub answers : answer ≡ answered (left_by s j call).seen
+  pub result : IsOk answer → numbers ≡ (left_by s j call).seen.result
 
 -- an event was answered on a page: record and journal, and the bytes put
 pub record Replied (reply : Reply) (service' : Service) (journal' : List ℕ) (before after : Page ℕ) : Type 0 where

@@ -1,5 +1,5 @@
 -- What a line does to record and journal, and the bytes that answer it: 1, then 9 for the date, then the call's own order. Assumes nothing.
-use Rattle.std.specs.Prelude.{ℕ, List, [], ◌++◌, ℤ, replicate, Option, None, Some, Ok, Err}
+use Rattle.std.specs.Prelude.{ℕ, List, [], ◌++◌, replicate, Option, None, Some, Ok, Err}
 use Rattle.answers.specs.declared.Refusal.TheVariants.{NotInColumns, NoSuchDay}
 use Rattle.answers.specs.Numbers.{Verdict, number_of, answer_of}
 use Rattle.calendar.specs.Dates.{day_of}
@@ -10,6 +10,7 @@ use Rattle.service.specs.declared.Service.{Service}
 use Rattle.service.specs.Call.{Call, Seen}
 use Rattle.service.specs.Call.{Submission as Submit, Clear as ClearUp, Evaluation as Evaluate}
 use Rattle.service.specs.Record.{call_on}
+use Rattle.event_reader.specs.declared.Submission.{Submission as SubmissionLine}
 use Rattle.event_reader.specs.declared.Event.{Event}
 use Rattle.event_reader.specs.declared.Event.TheVariants.{Submission, Clear, Evaluation}
 use Rattle.event_reader.specs.Events.{event_in}
@@ -27,24 +28,24 @@ on_day None call = None
 on_day (Some day) call = Some (call day)
 
 -- what an M line measures, on the day of its date
-abbrev pub measured : (code quarter : ℕ) → ℤ → (day : ℕ) → Measurement
-measured code quarter value day = record { code = code; day = day; quarter = quarter; value = value }
+abbrev pub measured : SubmissionLine → (day : ℕ) → Measurement
+measured asked day = record { code = asked.code; day = day; quarter = asked.quarter; value = asked.value }
 
 -- the call that a line asks for; a malformed line asks for none, and neither does one whose date does not exist
 abbrev pub call_of : Option Event → Option Call
 call_of None = None
-call_of (Some (Submission clock code date quarter value)) = on_day (day_of date) (λ day. Submit clock (measured code quarter value day))
-call_of (Some (Clear date stamp)) = on_day (day_of date) (λ day. ClearUp day stamp)
-call_of (Some (Evaluation date quarter T)) = on_day (day_of date) (λ day. Evaluate day quarter T result_list)
+call_of (Some (Submission asked)) = on_day (day_of asked.date) (λ day. Submit asked.clock (measured asked day))
+call_of (Some (Clear asked)) = on_day (day_of asked.date) (λ day. ClearUp day asked.stamp)
+call_of (Some (Evaluation asked)) = on_day (day_of asked.date) (λ day. Evaluate day asked.quarter asked.until result_list)
 
 -- ---- the text that answers it
 
 -- the answer to a line that asks for no call: 1 for a malformed line, 9 for its date; an E line in its columns is answered by an R line
 abbrev pub refusal_text : Option Event → List ℕ
 refusal_text None = line_a (number_of NotInColumns) 0
-refusal_text (Some (Submission clock code date quarter value)) = line_a (number_of NoSuchDay) 0
-refusal_text (Some (Clear date stamp)) = line_a (number_of NoSuchDay) 0
-refusal_text (Some (Evaluation date quarter T)) = line_r (number_of NoSuchDay) 0
+refusal_text (Some (Submission asked)) = line_a (number_of NoSuchDay) 0
+refusal_text (Some (Clear asked)) = line_a (number_of NoSuchDay) 0
+refusal_text (Some (Evaluation asked)) = line_r (number_of NoSuchDay) 0
 
 -- the A line of a submission or a clear: its answer, and the stamp or the dropped count
 abbrev pub answer_text : Seen → List ℕ

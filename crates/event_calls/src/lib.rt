@@ -1,17 +1,17 @@
 // The calls that events ask for: 9 for the date, then the call's own order, and the answer written to the front of a buffer.
 #![tactic(auto)]
 
-ghost use Rattle.std.specs.Prelude.{◌≡◌, ◌+◌, ◌≤◌, length, Some};
+ghost use Rattle.std.specs.Prelude.{◌≡◌, ◌≤◌, length, Some};
 ghost use Rattle.std.specs.Result.{result_unwrap_or};
 ghost use Rattle.answers.specs.Numbers.{answer_of};
-ghost use Rattle.lists.specs.Pages.{Added};
+ghost use Rattle.lists.specs.Pages.{Room, Added};
 ghost use Rattle.event_reader.specs.declared.Event.TheVariants.{Submission as SubmissionLine, Clear as ClearLine, Evaluation as EvaluationLine};
-ghost use Rattle.event_writer.specs.Answers.{line_a, bytes_of_answer};
-ghost use Rattle.event_calls.specs.Replies.{call_of, reply_of};
-ghost use Rattle.event_calls.specs.Promises.{answer_most, Calls, Replied, Replies};
+ghost use Rattle.event_writer.specs.Answers.{line_a, bytes_of_answer, line_r, bytes_of_rounds};
+ghost use Rattle.event_calls.specs.Replies.{result_list, call_of, reply_of};
+ghost use Rattle.event_calls.specs.Promises.{answer_most, Calls, Evaluated, Replied, Replies};
 
 use answers::Refusal;
-use event_reader::Event;
+use event_reader::{Clear, Evaluation, Event, Submission};
 use lists::Page;
 use lookup::Asked;
 use service::Service;
@@ -22,66 +22,71 @@ pub const ANSWER_MOST: usize = 7844;
 
 // Puts the A line of what a call answers: the stamp or the dropped count, 0 where it is refused.
 pub fn put_answer(page: &mut Page<u8>, answer: Result<u64, Refusal>)
-    requires { page.old.end + bytes_of_answer ≤ length page.old.space.now }
+    requires { Room bytes_of_answer page.old }
     ensures { Added (line_a (answer_of answer) (result_unwrap_or answer 0)) page.old page.new }
 {
-    event_writer::put_answer(page, answers::answer(&answer), answer.unwrap_or(0))
+    event_writer::ANSWER.put(page, [answers::answer(&answer), answer.unwrap_or(0)])
 }
 
-// Makes the call of an M line.
-fn submission(
-    service: &mut Service,
-    journal: &mut [u64],
-    clock: u64,
-    code: u64,
-    date: u64,
-    quarter: u64,
-    value: i64,
-) -> Result<u64, Refusal>
-    ensures { Calls service.old journal.old (call_of (Some (SubmissionLine clock code date quarter value))) service.new result journal.new }
+// Puts the R line of what an evaluation answers: the round count, 0 where it is refused.
+fn put_rounds(page: &mut Page<u8>, answer: Result<usize, Refusal>)
+    requires { Room bytes_of_rounds page.old }
+    ensures { Added (line_r (answer_of answer) (result_unwrap_or answer 0)) page.old page.new }
 {
-    let day = calendar::day_of(date).ok_or(Refusal::NoSuchDay)?;
+    event_writer::ROUNDS.put(page, [answers::answer(&answer), answer.unwrap_or(0) as u64])
+}
+
+// Makes the call of an M line. Record and journal come apart, since the C interface lends them so.
+fn submission(service: &mut Service, journal: &mut [u64], asked: Submission) -> Result<u64, Refusal>
+    ensures { Calls service.old journal.old (call_of (Some (SubmissionLine asked))) service.new result journal.new }
+{
+    let day = calendar::day_of(asked.date).ok_or(Refusal::NoSuchDay)?;
     let measurement = Measurement {
-        code,
+        code: asked.code,
         day,
-        quarter,
-        value,
+        quarter: asked.quarter,
+        value: asked.value,
     };
-    service.submit(journal, clock, measurement)
+    service.submit(journal, asked.clock, measurement)
 }
 
 // Makes the call of a C line.
-fn clear(service: &mut Service, journal: &mut [u64], date: u64, stamp: u64) -> Result<u64, Refusal>
-    ensures { Calls service.old journal.old (call_of (Some (ClearLine date stamp))) service.new result journal.new }
+fn clear(service: &mut Service, journal: &mut [u64], asked: Clear) -> Result<u64, Refusal>
+    ensures { Calls service.old journal.old (call_of (Some (ClearLine asked))) service.new result journal.new }
 {
-    let day = calendar::day_of(date).ok_or(Refusal::NoSuchDay)?;
-    let dropped = service.clear(journal, day, stamp)?;
+    let day = calendar::day_of(asked.date).ok_or(Refusal::NoSuchDay)?;
+    let dropped = service.clear(journal, day, asked.stamp)?;
     Ok(dropped as u64)
 }
 
-// Answers an E line, whose call alters neither record nor journal.
-fn put_evaluation(
+// Makes the call of an E line, which alters neither record nor journal; an accepted one leaves its result in `numbers`.
+fn evaluation(
     service: &Service,
     journal: &[u64],
-    date: u64,
-    quarter: u64,
-    until: u64,
-    page: &mut Page<u8>,
-)
-    requires { page.old.end + answer_most ≤ length page.old.space.now }
-    ensures { Replied (reply_of service.now journal.now (Some (EvaluationLine date quarter until))) service.now journal.now page.old page.new }
+    asked: Evaluation,
+    numbers: &mut [u64],
+) -> Result<usize, Refusal>
+    requires { numbers.old ≡ result_list }
+    ensures { Evaluated service.now journal.now (call_of (Some (EvaluationLine asked))) result numbers.new }
 {
-    let Some(day) = calendar::day_of(date) else {
-        return event_writer::put_rounds(page, u64::from(Refusal::NoSuchDay), 0);
-    };
+    let day = calendar::day_of(asked.date).ok_or(Refusal::NoSuchDay)?;
     let asked = Asked {
         day,
-        quarter,
-        until,
+        quarter: asked.quarter,
+        until: asked.until,
     };
+    service.evaluate(journal, asked, numbers)
+}
+
+// Answers an E line.
+fn put_evaluation(service: &Service, journal: &[u64], asked: Evaluation, page: &mut Page<u8>)
+    requires { Room answer_most page.old }
+    ensures { Replied (reply_of service.now journal.now (Some (EvaluationLine asked))) service.now journal.now page.old page.new }
+{
+    // as long as the longest result, since there is no heap
     let mut numbers = [0; evaluation::RESULT_MOST];
-    let rounds = service.evaluate(journal, asked, &mut numbers);
-    event_writer::put_rounds(page, answers::answer(&rounds), rounds.unwrap_or(0) as u64);
+    let rounds = evaluation(service, journal, asked, &mut numbers);
+    put_rounds(page, rounds);
     if rounds.is_ok() {
         event_writer::put_result(page, &service.registration, &numbers);
     }
@@ -89,33 +94,19 @@ fn put_evaluation(
 
 // Answers an event on a page: makes the call that it asks for on record and journal.
 fn put_reply(service: &mut Service, journal: &mut [u64], event: Option<Event>, page: &mut Page<u8>)
-    requires { page.old.end + answer_most ≤ length page.old.space.now }
+    requires { Room answer_most page.old }
     ensures { Replied (reply_of service.old journal.old event) service.new journal.new page.old page.new }
 {
-    let Some(event) = event else {
-        return put_answer(page, Err(Refusal::NotInColumns));
-    };
     match event {
-        Event::Submission {
-            clock,
-            code,
-            date,
-            quarter,
-            value,
-        } => put_answer(
-            page,
-            submission(service, journal, clock, code, date, quarter, value),
-        ),
-        Event::Clear { date, stamp } => put_answer(page, clear(service, journal, date, stamp)),
-        Event::Evaluation {
-            date,
-            quarter,
-            until,
-        } => put_evaluation(service, journal, date, quarter, until, page),
+        None => put_answer(page, Err(Refusal::NotInColumns)),
+        Some(Event::Submission(asked)) => put_answer(page, submission(service, journal, asked)),
+        Some(Event::Clear(asked)) => put_answer(page, clear(service, journal, asked)),
+        Some(Event::Evaluation(asked)) => put_evaluation(service, journal, asked, page),
     }
 }
 
-// Answers an event: makes the call that it asks for on record and journal, and writes its answer to the front of a buffer. Returns how many bytes it has.
+// Answers an event: makes the call that it asks for on record and journal, and writes its answer to the front of a buffer. Returns how many bytes it has,
+// as the library's `Read::read` does: what the rest of the buffer holds is promised too, which a slice of the answer would leave open.
 pub fn reply(
     service: &mut Service,
     journal: &mut [u64],

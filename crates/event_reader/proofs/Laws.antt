@@ -79,9 +79,11 @@ module _ (numbers : List ℕ) (value : ℤ) (fits : fitting widths_m numbers ≡
 
 pub event_read_back : EventReadBack
 unfolding event_in clear_in evaluation_in
-event_read_back (Submission clock code date quarter value) fits = submission_read (clock ∷ code ∷ date ∷ quarter ∷ []) value fits.0 fits.1
-event_read_back (Clear date stamp) fits = ap clear_from (line_read_back letter_c widths_c (date ∷ stamp ∷ []) fits)
-event_read_back (Evaluation date quarter until) fits = ap evaluation_from (line_read_back letter_e widths_e (date ∷ quarter ∷ until ∷ []) fits)
+event_read_back (Submission asked) fits =
+    submission_read (asked.clock ∷ asked.code ∷ asked.date ∷ asked.quarter ∷ []) asked.value fits.0 fits.1
+event_read_back (Clear asked) fits = ap clear_from (line_read_back letter_c widths_c (asked.date ∷ asked.stamp ∷ []) fits)
+event_read_back (Evaluation asked) fits =
+    ap evaluation_from (line_read_back letter_e widths_e (asked.date ∷ asked.quarter ∷ asked.until ∷ []) fits)
 
 -- ---- what is read is what is written
 

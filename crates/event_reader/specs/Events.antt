@@ -38,7 +38,14 @@ widths_e = 9 ∷ 4 ∷ 13 ∷ []
 abbrev pub submission_from : Option (List ℕ) → Option ℤ → Option Event
 submission_from None value = None
 submission_from (Some numbers) None = None
-submission_from (Some numbers) (Some value) = Some (Submission (get_or numbers 0 0) (get_or numbers 1 0) (get_or numbers 2 0) (get_or numbers 3 0) value)
+submission_from (Some numbers) (Some value) =
+    Some (Submission (record {
+      clock = get_or numbers 0 0;
+      code = get_or numbers 1 0;
+      date = get_or numbers 2 0;
+      quarter = get_or numbers 3 0;
+      value = value;
+    }))
 
 -- what an M line asks for: the letter, four numbers, the value, LF, and nothing else
 unfoldable pub submission_in : List ℕ → Option Event
@@ -50,7 +57,7 @@ submission_in line =
 -- a clear, if its numbers are in their columns
 abbrev pub clear_from : Option (List ℕ) → Option Event
 clear_from None = None
-clear_from (Some numbers) = Some (Clear (get_or numbers 0 0) (get_or numbers 1 0))
+clear_from (Some numbers) = Some (Clear (record { date = get_or numbers 0 0; stamp = get_or numbers 1 0 }))
 
 -- what a C line asks for
 unfoldable pub clear_in : List ℕ → Option Event
@@ -59,7 +66,7 @@ clear_in line = clear_from (line_in letter_c widths_c line)
 -- an evaluation, if its numbers are in their columns
 abbrev pub evaluation_from : Option (List ℕ) → Option Event
 evaluation_from None = None
-evaluation_from (Some numbers) = Some (Evaluation (get_or numbers 0 0) (get_or numbers 1 0) (get_or numbers 2 0))
+evaluation_from (Some numbers) = Some (Evaluation (record { date = get_or numbers 0 0; quarter = get_or numbers 1 0; until = get_or numbers 2 0 }))
 
 -- what an E line asks for
 unfoldable pub evaluation_in : List ℕ → Option Event

@@ -10,17 +10,19 @@ use Rattle.event_reader.specs.Events.{letter_m, letter_c, letter_e, widths_m, wi
 
 -- the line of an event
 abbrev pub line_of_event : Event → List ℕ
-line_of_event (Submission clock code date quarter value) =
-    letter_m ∷ (columns_of widths_m (clock ∷ code ∷ date ∷ quarter ∷ []) ++ (signed_column_of width_of_value value ++ (10 ∷ [])))
-line_of_event (Clear date stamp) = line_of letter_c widths_c (date ∷ stamp ∷ [])
-line_of_event (Evaluation date quarter until) = line_of letter_e widths_e (date ∷ quarter ∷ until ∷ [])
+line_of_event (Submission asked) =
+    letter_m
+    ∷ (columns_of widths_m (asked.clock ∷ asked.code ∷ asked.date ∷ asked.quarter ∷ []) ++ (signed_column_of width_of_value asked.value ++ (10 ∷ [])))
+line_of_event (Clear asked) = line_of letter_c widths_c (asked.date ∷ asked.stamp ∷ [])
+line_of_event (Evaluation asked) = line_of letter_e widths_e (asked.date ∷ asked.quarter ∷ asked.until ∷ [])
 
 -- the numbers of an event fit their columns
 abbrev pub Fits : Event → Type 0
-Fits (Submission clock code date quarter value) =
-    (fitting widths_m (clock ∷ code ∷ date ∷ quarter ∷ []) ≡ true) × (nat_abs value < 10 ^ digits width_of_value value)
-Fits (Clear date stamp) = fitting widths_c (date ∷ stamp ∷ []) ≡ true
-Fits (Evaluation date quarter until) = fitting widths_e (date ∷ quarter ∷ until ∷ []) ≡ true
+Fits (Submission asked) =
+    (fitting widths_m (asked.clock ∷ asked.code ∷ asked.date ∷ asked.quarter ∷ []) ≡ true)
+    × (nat_abs asked.value < 10 ^ digits width_of_value asked.value)
+Fits (Clear asked) = fitting widths_c (asked.date ∷ asked.stamp ∷ []) ≡ true
+Fits (Evaluation asked) = fitting widths_e (asked.date ∷ asked.quarter ∷ asked.until ∷ []) ≡ true
 
 -- an event whose numbers fit is read back from its line
 abbrev pub EventReadBack : Type 0

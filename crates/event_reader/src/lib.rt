@@ -6,25 +6,37 @@ ghost use Rattle.event_reader.specs.Events.{submission_in, clear_in, evaluation_
 
 use lines::Format;
 
-// What a line asks for, with the date as it stands there.
+// A submission, as an M line asks for it: the date stands as it was read.
+#[derive(Clone, Copy)]
+pub struct Submission {
+    pub clock: u64,
+    pub code: u64,
+    pub date: u64,
+    pub quarter: u64,
+    pub value: i64,
+}
+
+// A clear, as a C line asks for it.
+#[derive(Clone, Copy)]
+pub struct Clear {
+    pub date: u64,
+    pub stamp: u64,
+}
+
+// An evaluation as of the stamp T, `until`, as an E line asks for it.
+#[derive(Clone, Copy)]
+pub struct Evaluation {
+    pub date: u64,
+    pub quarter: u64,
+    pub until: u64,
+}
+
+// What a line asks for.
 #[derive(Clone, Copy)]
 pub enum Event {
-    Submission {
-        clock: u64,
-        code: u64,
-        date: u64,
-        quarter: u64,
-        value: i64,
-    },
-    Clear {
-        date: u64,
-        stamp: u64,
-    },
-    Evaluation {
-        date: u64,
-        quarter: u64,
-        until: u64,
-    },
+    Submission(Submission),
+    Clear(Clear),
+    Evaluation(Evaluation),
 }
 
 // The bytes of an M line between its letter and its LF.
@@ -45,7 +57,7 @@ const EVALUATION: Format<3> = Format {
     widths: [9, 4, 13],
 };
 
-// Reads an M line.
+// Reads an M line, which is no `Format`: its last column is signed.
 #[tactic(auto, unfolding(crate::specs::Events::submission_in))]
 fn read_submission(line: &[u8]) -> Option<Event>
     ensures { result ≡ submission_in line.now }
@@ -55,13 +67,13 @@ fn read_submission(line: &[u8]) -> Option<Event>
     }
     let [clock, code, date, quarter] = lines::read_columns(&line[1..], &WIDTHS_M)?;
     let value = columns::read_signed(&line[46..56])?;
-    Some(Event::Submission {
+    Some(Event::Submission(Submission {
         clock,
         code,
         date,
         quarter,
         value,
-    })
+    }))
 }
 
 // Reads a C line.
@@ -70,7 +82,7 @@ fn read_clear(line: &[u8]) -> Option<Event>
     ensures { result ≡ clear_in line.now }
 {
     let [date, stamp] = CLEAR.read(line)?;
-    Some(Event::Clear { date, stamp })
+    Some(Event::Clear(Clear { date, stamp }))
 }
 
 // Reads an E line.
@@ -79,11 +91,11 @@ fn read_evaluation(line: &[u8]) -> Option<Event>
     ensures { result ≡ evaluation_in line.now }
 {
     let [date, quarter, until] = EVALUATION.read(line)?;
-    Some(Event::Evaluation {
+    Some(Event::Evaluation(Evaluation {
         date,
         quarter,
         until,
-    })
+    }))
 }
 
 // Reads a line of an event by its letter; a line of any other letter, or with none, asks for nothing.

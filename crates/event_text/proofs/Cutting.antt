@@ -137,10 +137,6 @@ module _ (input : List ℕ) where
       omega (arith, long, length-append registration parts.rest, ap length e, length-drop (length registration) input) in
       rw front registration_taken
 
-  -- and that text is no longer than the input
-  pub events_within : length (events_text input) ≤ length input
-  events_within = omega (arith, length-drop (length (registration_in (lines_of input))) input)
-
 -- ---- the text from the first event on, line by line
 
 pub events_ended : (text : List ℕ) → is_event text ≡ true → text ≡ events_text text

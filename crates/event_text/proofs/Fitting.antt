@@ -30,9 +30,9 @@ answer_fits answer number = omega (arith, length_of_answer answer number)
 -- the answer to a line that asks for no call, by computing it
 refusal_fits : (event : Option Event) → length (refusal_text event) ≤ answer_most
 unfolding columns_of column_of lead_of
-refusal_fits (Some (Submission clock code date quarter value)) = omega arith
-refusal_fits (Some (Clear date stamp)) = omega arith
-refusal_fits (Some (Evaluation date quarter T)) = omega arith
+refusal_fits (Some (Submission asked)) = omega arith
+refusal_fits (Some (Clear asked)) = omega arith
+refusal_fits (Some (Evaluation asked)) = omega arith
 refusal_fits None = omega arith
 
 -- the lines of a result, which only an accepted evaluation has

@@ -71,7 +71,8 @@ pub fn refusal_line(refusal: Refusal) -> [u8; event_writer::ANSWER_BYTES]
     line
 }
 
-// Answers a line: makes the call that it asks for on record and journal, and writes its answer to the front of a buffer. Returns how many bytes it has.
+// Answers a line: makes the call that it asks for on record and journal, and writes its answer to the front of a buffer. Returns how many bytes it has
+// and no slice of them, for the reason that stands at `event_calls::reply`.
 pub fn answer(
     service: &mut Service,
     journal: &mut [u64],

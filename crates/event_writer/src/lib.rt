@@ -2,12 +2,12 @@
 #![tactic(auto)]
 
 ghost use Rattle.std.specs.Prelude.{ℕ, ◌≡◌, ◌+◌, ◌*◌, ◌≤◌, ◌<◌, [], ◌∷◌, length};
-ghost use Rattle.lists.specs.Pages.{Added};
+ghost use Rattle.lists.specs.Pages.{Room, Added};
 ghost use Rattle.columns.specs.Fields.{total};
-ghost use Rattle.registration.specs.Rules.{source_at, count_at};
+ghost use Rattle.registration.specs.Rules.{points, source_at, count_at};
 ghost use Rattle.registration.specs.Pairs.{pairs_in};
 ghost use Rattle.evaluation.specs.Layout.{size_of};
-ghost use Rattle.event_writer.specs.Answers.{line_a, bytes_of_answer, line_r, bytes_of_rounds, lines_of_consumer, lines_s, lines_of_points, lines_of_result, bytes_of_result};
+ghost use Rattle.event_writer.specs.Answers.{lines_of_consumer, lines_s, lines_of_points, lines_of_result, bytes_of_result};
 
 use lines::Format;
 use lists::Page;
@@ -17,13 +17,13 @@ use registration::Registration;
 pub const ANSWER_BYTES: usize = 19;
 
 // A: the answer, and the stamp or the dropped count.
-const ANSWER: Format<2> = Format {
+pub const ANSWER: Format<2> = Format {
     letter: b'A',
     widths: [4, 13],
 };
 
 // R: the answer and the round count.
-const ROUNDS: Format<2> = Format {
+pub const ROUNDS: Format<2> = Format {
     letter: b'R',
     widths: [4, 2],
 };
@@ -52,25 +52,9 @@ const ORIGIN: Format<2> = Format {
     widths: [4, 2],
 };
 
-// Puts an A line: the answer, and the stamp or the dropped count.
-pub fn put_answer(page: &mut Page<u8>, answer: u64, number: u64)
-    requires { page.old.end + bytes_of_answer ≤ length page.old.space.now }
-    ensures { Added (line_a answer number) page.old page.new }
-{
-    ANSWER.put(page, [answer, number])
-}
-
-// Puts an R line: the answer and the round count.
-pub fn put_rounds(page: &mut Page<u8>, answer: u64, rounds: u64)
-    requires { page.old.end + bytes_of_rounds ≤ length page.old.space.now }
-    ensures { Added (line_r answer rounds) page.old page.new }
-{
-    ROUNDS.put(page, [answer, rounds])
-}
-
 // Puts the S lines of a consumer with its pairs' shares.
 fn put_consumer(page: &mut Page<u8>, registration: &Registration, consumer: usize, shares: &[u64])
-    requires { (consumer < 64) × (length shares.now ≤ 5) × (page.old.end + 20 * length shares.now ≤ length page.old.space.now) }
+    requires { (consumer < 64) × (length shares.now ≤ 5) × Room (20 * length shares.now) page.old }
     ensures { Added (lines_of_consumer (source_at registration.now consumer) consumer (length shares.now) 0 shares.now) page.old page.new }
 {
     for (priority, share) in shares.iter().enumerate() {
@@ -81,9 +65,9 @@ fn put_consumer(page: &mut Page<u8>, registration: &Registration, consumer: usiz
 
 // Puts the S lines of all consumers, whose shares stand at the front of the result list.
 fn put_shares(page: &mut Page<u8>, registration: &Registration, numbers: &[u64])
-    requires consumers_bound { registration.now.producers + registration.now.consumers ≤ 64 }
+    requires consumers_bound { points registration.now ≤ 64 }
     requires by_index { (consumer : ℕ) → consumer < registration.now.consumers → count_at registration.now consumer ≤ 5 }
-    requires registration_in_bounds { (pairs_in registration.now ≤ length numbers.now) × (page.old.end + 20 * pairs_in registration.now ≤ length page.old.space.now) }
+    requires registration_in_bounds { (pairs_in registration.now ≤ length numbers.now) × Room (20 * pairs_in registration.now) page.old }
     ensures { Added (lines_s registration.now numbers.now) page.old page.new }
 {
     let mut rest = numbers;
@@ -99,7 +83,7 @@ fn put_shares(page: &mut Page<u8>, registration: &Registration, numbers: &[u64])
 
 // Puts a line for each of these numbers, with the point's number before it.
 fn put_points(page: &mut Page<u8>, format: &Format<2>, numbers: &[u64])
-    requires { (length format.now.widths ≡ 2) × (length numbers.now ≤ 64) × (page.old.end + (total format.now.widths + 2) * length numbers.now ≤ length page.old.space.now) }
+    requires { (length format.now.widths ≡ 2) × (length numbers.now ≤ 64) × Room ((total format.now.widths + 2) * length numbers.now) page.old }
     ensures { Added (lines_of_points format.now.letter format.now.widths 0 (length numbers.now) numbers.now) page.old page.new }
 {
     for (point, number) in numbers.iter().enumerate() {
@@ -109,9 +93,9 @@ fn put_points(page: &mut Page<u8>, format: &Format<2>, numbers: &[u64])
 
 // Puts the result of an evaluation, line by line.
 pub fn put_result(page: &mut Page<u8>, registration: &Registration, numbers: &[u64])
-    requires consumers_bound { registration.now.producers + registration.now.consumers ≤ 64 }
+    requires consumers_bound { points registration.now ≤ 64 }
     requires by_index { (consumer : ℕ) → consumer < registration.now.consumers → count_at registration.now consumer ≤ 5 }
-    requires registration_in_bounds { (size_of registration.now ≤ length numbers.now) × (page.old.end + bytes_of_result registration.now ≤ length page.old.space.now) }
+    requires registration_in_bounds { (size_of registration.now ≤ length numbers.now) × Room (bytes_of_result registration.now) page.old }
     ensures { Added (lines_of_result registration.now numbers.now) page.old page.new }
 {
     let layout = evaluation::layout_of(registration);
