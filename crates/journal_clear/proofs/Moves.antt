@@ -1,6 +1,6 @@
 -- Entries moved to the front: one turn of the moving. Assumes nothing.
 use Prim.Native.Nat.{ℕ, ◌+◌, ◌*◌, ◌≤◌, ◌<◌}
-use mathlib.Core.Path.{◌≡◌, refl, sym, ◌∙◌}
+use mathlib.Core.Path.{◌≡◌, sym, ◌∙◌}
 use mathlib.Core.Bool.{true, false}
 use mathlib.Core.List.{List, ◌++◌, append_assoc, append-nil}
 use native.Mathlib.Omega.{arith}
@@ -9,7 +9,7 @@ use Rattle.lists.specs.Place.{placed}
 use Rattle.lists.proofs.PlaceLaws.{take_placed, drop_placed}
 use Rattle.lists.specs.Those.{those}
 use Rattle.journal.specs.Stored.{entries, entry_at, numbers, flat}
-use Rattle.journal.proofs.Stored.{rest, rest_start, rest_step, rest_end}
+use Rattle.journal.proofs.Stored.{rest, rest_step, rest_end}
 use Rattle.journal_clear.specs.Marks.{is_left, Compacted}
 
 module _ (K count : ℕ) where
@@ -24,10 +24,6 @@ module _ (K count : ℕ) where
     pub same_length : length j ≡ length first
     pub fits : 3 * count ≤ length j
     pub done : moved_and_left j kept i ≡ flat (those (is_left K) (entries count first))
-
-  pub start : (j : List ℕ) → 3 * count ≤ length j → Moving j j 0 0
-  start j h =
-      record { behind = omega arith; ahead = omega arith; same_length = refl; fits = h; done = rw rest_start }
 
   pub finish : (first j : List ℕ) (kept i : ℕ) → count ≤ i → Moving first j kept i → Compacted K count first j kept
   unfolding flat

@@ -14,10 +14,11 @@ ghost use Rattle.journal_clear.specs.Seen.{has_seen, Saw, Turned};
 
 use journal::{ENTRY, Entry, POINT_PLACES};
 
-// How many keys a window has, and how many words the table: a bit for each key.
+// How many keys a window has.
 const WINDOW: u64 = 1048576;
 
-const WORDS: usize = 16384;
+// How many words the table of bits has: a bit for each key of a window.
+const WORDS: usize = WINDOW as usize / 64;
 
 // What a pass marks: entries of a group of so many points, up to a stamp, in the window of the keys from `lo` on.
 #[derive(Clone, Copy)]
@@ -89,7 +90,8 @@ fn turn(
 }
 
 // Marks the superseded entries whose keys are in the window: of a place, all up to the stamp but the first one met from the last entry back. Returns
-// the least key beyond the window, if there is one.
+// the least key beyond the window, if there is one. A loop and not a fold: of a closure that changes the journal and the table, which it captures, a
+// proof knows nothing.
 fn pass(numbers: &mut [u64], window: Window) -> Option<u64>
     requires { window.points ≤ 64 }
     ensures { Passed window.points window.lo window.stamp (length numbers.old / 3) numbers.old numbers.new result }
@@ -121,18 +123,14 @@ fn left(entry: Entry, day: u64) -> bool
     entry.stamp != 0 && day <= entry.place / 100 % calendar::DAYS
 }
 
-// Moves the entries that are left to the front, in order. Returns how many they are.
+// Moves the entries that are left to the front, in order, in place since there is no heap. Returns how many they are.
 fn compact(numbers: &mut [u64], day: u64) -> usize
     ensures { Compacted day (length numbers.old / 3) numbers.old numbers.new result }
 {
     let mut moved = 0;
     for i in 0..numbers.len() / ENTRY {
         let at = ENTRY * i;
-        let entry = Entry {
-            stamp: numbers[at],
-            place: numbers[at + 1],
-            stored: numbers[at + 2],
-        };
+        let entry = Entry::from([numbers[at], numbers[at + 1], numbers[at + 2]]);
         if left(entry, day) {
             journal::put(numbers, moved, entry);
             moved += 1;
