@@ -1,5 +1,6 @@
 pub mod Turns
 pub mod Shareable
+pub mod Named
 pub mod Consumers
 pub mod Producers
 pub mod ArrayRound

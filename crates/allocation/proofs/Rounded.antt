@@ -1,23 +1,24 @@
 -- The rounds in the working arrays, one after the other, and the allocation that the arrays hold after the last. Assumes nothing.
-use Prim.Native.Nat.{ℕ, ◌+◌, ◌-◌, ◌≤◌, ◌<◌}
+use Prim.Native.Nat.{ℕ, zero, suc, ◌+◌, ◌-◌, ◌≤◌, ◌<◌}
 use mathlib.Core.Path.{◌≡◌, refl, sym, ap, ◌∙◌}
 use mathlib.Core.Bool.{Bool, true, false}
-use mathlib.Core.List.{List}
+use mathlib.Core.List.{List, []}
 use native.Mathlib.Omega.{arith}
 use native.Mathlib.Nat.{le_antisymm, add-sub_of_le}
 use native.Mathlib.Numerals.{add-one}
 use lib.Dec.{leb}
-use lib.ListN.{length, get_or}
+use lib.ListN.{length, get_or, replicate}
 use borrow.Author.Tests.{leb-true, leb-false}
 use Rattle.lists.proofs.TableLaws.{table_at}
 use Rattle.registration.specs.declared.Registration.{Registration}
-use Rattle.registration.specs.Rules.{count_at, place_at}
+use Rattle.registration.specs.Rules.{count_at}
 use Rattle.lists.proofs.Below.{sum_none, sum_next}
 use Rattle.values.specs.Values.{magnitude_most}
+use Rattle.allocation.specs.declared.Allocated.{Allocated}
 use Rattle.allocation.specs.Input.{Shareable, Magnitudes}
 use Rattle.allocation.specs.Rounds.{Remaining, withdrawal_at, supply_at, share_in, round_of, after_rounds, received}
 use Rattle.allocation.specs.Result.{Allocation, pairs_of, rounds_for, allocation_of}
-use Rattle.allocation.specs.Working.{remaining_in, PairsWithin, RoundMade, allocation_in}
+use Rattle.allocation.specs.Working.{remaining_in, by_pair, PairsWithin, FivePlaces, RoundMade, allocation_in}
 use Rattle.lists.proofs.Sums.{sum_term}
 use Rattle.allocation.proofs.Pairs.{pairs_same}
 use Rattle.allocation.proofs.Laws.{supply_adds_up, withdrawal_adds_up, within_withdrawal}
@@ -37,53 +38,65 @@ equal_lists : {s s' w w' p p' : List ℕ} {n n' : ℕ} → s ≡ s' → w ≡ w'
 equal_lists e f g h = rw (e, f, g, h)
 
 -- so many rounds have been made
-pub record Rounded (r : Registration) (most : ℕ) (magnitudes left shares : List ℕ) (round : ℕ) : Type 0 where
+pub record Rounded (r : Registration) (most : ℕ) (magnitudes : List ℕ) (allocated : Allocated) (round : ℕ) : Type 0 where
   pub passed : round ≤ most
-  pub points_size : length left ≡ 64
-  pub pairs_size : length shares ≡ 320
-  pub remains : remaining_in r left ≡ after_rounds r (remaining_in r magnitudes) round
+  pub rounds : allocated.rounds ≡ most
+  pub places : FivePlaces allocated.shares
+  pub remains : remaining_in r allocated.left ≡ after_rounds r (remaining_in r magnitudes) round
   pub sums : (consumer priority : ℕ) → consumer < r.consumers → priority < count_at r consumer
-      → place_at shares consumer priority ≡ received r (remaining_in r magnitudes) round consumer priority
+      → by_pair allocated.shares consumer priority ≡ received r (remaining_in r magnitudes) round consumer priority
 
-pub rounded_none : (r : Registration) (most : ℕ) (magnitudes shares : List ℕ) → length magnitudes ≡ 64 → length shares ≡ 320 → ((place : ℕ) → get_or shares place 0 ≡ 0)
-    → Rounded r most magnitudes magnitudes shares 0
-rounded_none r most magnitudes shares points_size pairs_size none =
+-- arrays of zeros have 0 for every pair
+pub zero_by_pair : (n : ℕ) (row : List ℕ) → ((k : ℕ) → get_or row k 0 ≡ 0) → (consumer priority : ℕ) → by_pair (replicate n row) consumer priority ≡ 0
+zero_by_pair zero row none consumer priority = refl
+zero_by_pair (suc n) row none zero priority = none priority
+zero_by_pair (suc n) row none (suc consumer) priority = zero_by_pair n row none consumer priority
+
+-- and as many places as each array has
+pub places_of_each : (n : ℕ) (row : List ℕ) (consumer : ℕ) → consumer < n → length (get_or (replicate n row) consumer []) ≡ length row
+places_of_each zero row consumer h = absurd (omega arith)
+places_of_each (suc n) row zero h = refl
+places_of_each (suc n) row (suc consumer) h = places_of_each n row consumer (omega arith)
+
+pub rounded_none : (r : Registration) (allocated : Allocated) → ((consumer priority : ℕ) → by_pair allocated.shares consumer priority ≡ 0) → FivePlaces allocated.shares
+    → Rounded r allocated.rounds allocated.left allocated 0
+rounded_none r allocated none places =
     record {
       passed = omega arith;
-      points_size = points_size;
-      pairs_size = pairs_size;
-      remains = sym (after_none r (remaining_in r magnitudes));
-      sums = λ c k h l. none _ ∙ sym (sum_none _);
+      rounds = refl;
+      places = places;
+      remains = sym (after_none r (remaining_in r allocated.left));
+      sums = λ c k h l. none c k ∙ sym (sum_none _);
     }
 
-module _ {r : Registration} (s : Shareable r) {most round : ℕ} {magnitudes left shares : List ℕ}
-    (m : Magnitudes r (λ point. get_or magnitudes point 0)) (t : Rounded r most magnitudes left shares round) where
-  supply_left : (p : ℕ) → p < r.producers → get_or left p 0 ≤ magnitude_most
+module _ {r : Registration} (s : Shareable r) {most round : ℕ} {magnitudes : List ℕ} {allocated : Allocated}
+    (m : Magnitudes r (λ point. get_or magnitudes point 0)) (t : Rounded r most magnitudes allocated round) where
+  supply_left : (p : ℕ) → p < r.producers → get_or allocated.left p 0 ≤ magnitude_most
   supply_left p h =
-      let here : get_or left p 0 ≡ supply_at (after_rounds r (remaining_in r magnitudes) round) p =
-      sym (table_at (λ point. get_or left point 0) r.producers p h) ∙ ap (λ (x : Remaining). supply_at x p) t.remains in
+      let here : get_or allocated.left p 0 ≡ supply_at (after_rounds r (remaining_in r magnitudes) round) p =
+      sym (table_at (λ point. get_or allocated.left point 0) r.producers p h) ∙ ap (λ (x : Remaining). supply_at x p) t.remains in
       let first = table_at (λ point. get_or magnitudes point 0) r.producers p h in
       omega (arith, here, first, supply_adds_up r (remaining_in r magnitudes) round s p h, m p (omega arith))
 
-  withdrawal_left : (c : ℕ) → c < r.consumers → get_or left (r.producers + c) 0 ≤ magnitude_most
+  withdrawal_left : (c : ℕ) → c < r.consumers → get_or allocated.left (r.producers + c) 0 ≤ magnitude_most
   withdrawal_left c h =
-      let here : get_or left (r.producers + c) 0 ≡ withdrawal_at (after_rounds r (remaining_in r magnitudes) round) c =
-      sym (table_at (λ c. get_or left (r.producers + c) 0) r.consumers c h) ∙ ap (λ (x : Remaining). withdrawal_at x c) t.remains in
+      let here : get_or allocated.left (r.producers + c) 0 ≡ withdrawal_at (after_rounds r (remaining_in r magnitudes) round) c =
+      sym (table_at (λ c. get_or allocated.left (r.producers + c) 0) r.consumers c h) ∙ ap (λ (x : Remaining). withdrawal_at x c) t.remains in
       let first = table_at (λ c. get_or magnitudes (r.producers + c) 0) r.consumers c h in
       omega (arith, here, first, withdrawal_adds_up r (remaining_in r magnitudes) round c h, m (r.producers + c) (omega arith))
 
   -- what is left of each point is at most what there was
-  pub still_magnitudes : Magnitudes r (λ point. get_or left point 0)
+  pub still_magnitudes : Magnitudes r (λ point. get_or allocated.left point 0)
   still_magnitudes point h = go (leb r.producers point) refl
     where
-      go : (b : Bool) → leb r.producers point ≡ b → get_or left point 0 ≤ magnitude_most
+      go : (b : Bool) → leb r.producers point ≡ b → get_or allocated.left point 0 ≤ magnitude_most
       go true e =
           let l = leb-true r.producers point e in
           rw (← add-sub_of_le l) (withdrawal_left (point - r.producers) (omega arith))
       go false e = supply_left point (leb-false r.producers point e)
 
   -- what a pair has received is within its consumer's withdrawal
-  pub still_within : PairsWithin r shares
+  pub still_within : PairsWithin r allocated.shares
   still_within c k h l =
       let first = table_at (λ c. get_or magnitudes (r.producers + c) 0) r.consumers c h in
       omega (
@@ -96,13 +109,12 @@ module _ {r : Registration} (s : Shareable r) {most round : ℕ} {magnitudes lef
       )
 
   -- one round more
-  pub rounded_next : {left' shares' : List ℕ} → round < most → length left' ≡ 64 → length shares' ≡ 320 → RoundMade r left left' shares shares'
-      → Rounded r most magnitudes left' shares' (round + 1)
-  rounded_next h points_size pairs_size made =
+  pub rounded_next : {after : Allocated} → round < most → RoundMade r allocated after → Rounded r most magnitudes after (round + 1)
+  rounded_next h made =
       record {
         passed = omega arith;
-        points_size = points_size;
-        pairs_size = pairs_size;
+        rounds = made.rounds ∙ t.rounds;
+        places = made.places;
         remains = made.left ∙ rw (t.remains, after_next);
         sums = λ c k l n.
             let share = ap (λ (start : Remaining). share_in r start c k) t.remains in
@@ -120,14 +132,14 @@ module _ {r : Registration} (s : Shareable r) {most round : ℕ} {magnitudes lef
     rounds_same : round ≡ rounds_for r
     rounds_same = le_antisymm t.passed h ∙ e
 
-    remains_last : remaining_in r left ≡ after_rounds r (remaining_in r magnitudes) (rounds_for r)
+    remains_last : remaining_in r allocated.left ≡ after_rounds r (remaining_in r magnitudes) (rounds_for r)
     remains_last = t.remains ∙ ap (after_rounds r (remaining_in r magnitudes)) rounds_same
 
-    shares_last : pairs_of r (place_at shares) ≡ pairs_of r (received r (remaining_in r magnitudes) (rounds_for r))
+    shares_last : pairs_of r (by_pair allocated.shares) ≡ pairs_of r (received r (remaining_in r magnitudes) (rounds_for r))
     shares_last =
         pairs_same r _ _ (λ c k l n. t.sums c k l n ∙ ap (λ (i : ℕ). received r (remaining_in r magnitudes) i c k) rounds_same)
 
-    pub allocated : allocation_in r (record { shares = shares; left = left; rounds = most }) ≡ allocation_of r (λ point. get_or magnitudes point 0)
+    pub held : allocation_in r allocated ≡ allocation_of r (λ point. get_or magnitudes point 0)
     unfolding allocation_of
-    allocated =
-        equal_lists shares_last (ap (λ (x : Remaining). x.withdrawals) remains_last) (ap (λ (x : Remaining). x.supplies) remains_last) e
+    held =
+        equal_lists shares_last (ap (λ (x : Remaining). x.withdrawals) remains_last) (ap (λ (x : Remaining). x.supplies) remains_last) (t.rounds ∙ e)

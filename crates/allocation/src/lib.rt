@@ -6,7 +6,7 @@ ghost use Rattle.values.specs.Values.{magnitude_most};
 ghost use Rattle.allocation.specs.Input.{Shareable, Magnitudes};
 ghost use Rattle.allocation.specs.Rounds.{rounds_of, offer_of, share_of};
 ghost use Rattle.allocation.specs.Result.{allocation_of};
-ghost use Rattle.allocation.specs.Working.{PairsWithin, RoundMade, allocation_in};
+ghost use Rattle.allocation.specs.Working.{PairsWithin, FivePlaces, RoundMade, allocation_in};
 
 use registration::Registration;
 
@@ -15,20 +15,21 @@ pub const ROUNDS_MOST: usize = 5;
 
 pub const POINTS_ITERATED_MOST: usize = 50;
 
-// An allocation of a quarter hour in working arrays: what each pair received, at 5 × consumer + priority; what is left of each point,
-// producers first; and the round count. What stands at places of no pair and of no point is free.
+// An allocation of a quarter hour in working arrays: what each pair received, by consumer and priority; what is left of each point, producers first; and
+// the round count. What stands at places of no pair and of no point is free.
 #[derive(Clone, Copy)]
 pub struct Allocated {
-    pub shares: [u64; 320],
+    pub shares: [[u64; 5]; 64],
     pub left: [u64; 64],
     pub rounds: usize,
 }
 
-// How many rounds a group of so many points and consumers has.
+// How many rounds a group of so many points and consumers has. It takes numbers, since what it promises holds of more points than a registration may have.
 #[tactic(auto, unfolding(crate::specs::Rounds::rounds_of))]
 pub fn rounds(iteration: u8, points: usize, consumers: usize) -> usize
     ensures { result ≡ rounds_of iteration points consumers }
 {
+    // a number, as the C interface has it in a registration
     if iteration == 1 && points <= POINTS_ITERATED_MOST {
         consumers.min(ROUNDS_MOST)
     } else {
@@ -44,25 +45,28 @@ fn share_of(withdrawal: u64, key: u64, supply: u64) -> u64
     withdrawal.min(key * supply / Registration::KEY_MOST)
 }
 
-// A round from what is left of each point: every consumer goes through its producers by priority. A share lowers what is left of the
-// withdrawal at once, and of the supply for the next round: what is offered in this one rests on the supplies at its start.
-fn make_round(registration: &Registration, left: &mut [u64; 64], shares: &mut [u64; 320])
-    requires { Shareable registration.now × Magnitudes registration.now (λ point. get_or left.old point 0) × PairsWithin registration.now shares.old }
-    ensures { RoundMade registration.now left.old left.new shares.old shares.new }
-{
-    let start = *left;
-    for consumer in 0..registration.consumers {
-        let point = registration.producers + consumer;
-        let mut withdrawal = start[point];
-        for priority in 0..usize::from(registration.counts[consumer]) {
-            let pair = registration.pair(consumer, priority);
-            let producer = pair.source as usize - 1;
-            let share = share_of(withdrawal, pair.key, start[producer]);
-            withdrawal -= share;
-            left[producer] -= share;
-            shares[Registration::SOURCES * consumer + priority] += share;
+impl Allocated {
+    // A round from what is left of each point: every consumer goes through its producers by priority. A share lowers what is left of the withdrawal at
+    // once, and of the supply for the next round: what is offered in this one rests on the supplies at its start.
+    #[tactic(auto, using(crate::proofs::Named::right, crate::proofs::Shareable::few_points, crate::proofs::Shareable::count_most))]
+    fn make_round(&mut self, registration: &Registration)
+        requires { Shareable registration.now × Magnitudes registration.now (λ point. get_or self.old.left point 0) × PairsWithin registration.now self.old.shares × FivePlaces self.old.shares }
+        ensures { RoundMade registration.now self.old self.new }
+    {
+        let start = self.left;
+        for consumer in 0..registration.consumers {
+            let point = registration.producers + consumer;
+            let count = usize::from(registration.counts[consumer]);
+            let mut withdrawal = start[point];
+            for (priority, pair) in registration.pairs(consumer)[..count].iter().enumerate() {
+                let producer = pair.source as usize - 1;
+                let share = share_of(withdrawal, pair.key, start[producer]);
+                withdrawal -= share;
+                self.left[producer] -= share;
+                self.shares[consumer][priority] += share;
+            }
+            self.left[point] = withdrawal;
         }
-        left[point] = withdrawal;
     }
 }
 
@@ -76,16 +80,15 @@ pub fn allocate(registration: &Registration, magnitudes: &[u64; 64]) -> Allocate
         registration.points(),
         registration.consumers,
     );
-    let mut left = *magnitudes;
-    let mut shares = [0; 320];
+    let mut allocated = Allocated {
+        shares: [[0; 5]; 64],
+        left: *magnitudes,
+        rounds,
+    };
     // a copy, from which the rounds read faster than from what is lent
     let group = *registration;
     for _ in 0..rounds {
-        make_round(&group, &mut left, &mut shares);
+        allocated.make_round(&group);
     }
-    Allocated {
-        shares,
-        left,
-        rounds,
-    }
+    allocated
 }

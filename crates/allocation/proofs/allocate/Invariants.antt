@@ -3,4 +3,4 @@ use Rattle.allocation.proofs.Rounded.{Rounded}
 use Rattle.allocation.proofs.allocate.Given as goal
 
 abbrev pub invariant-loop : goal.invariant-loop
-invariant-loop l = Rounded l.registration l.rounds l.initial.left l.left l.shares l.counter
+invariant-loop l = Rounded l.registration l.rounds l.magnitudes l.allocated l.counter
