@@ -73,7 +73,8 @@ impl Allocated {
 // The allocation of a quarter hour from the magnitudes of all points, producers first.
 pub fn allocate(registration: &Registration, magnitudes: &[u64; 64]) -> Allocated
     requires { Shareable registration.now × Magnitudes registration.now (λ point. get_or magnitudes.now point 0) }
-    ensures { allocation_in registration.now result ≡ allocation_of registration.now (λ point. get_or magnitudes.now point 0) }
+    ensures held { allocation_in registration.now result ≡ allocation_of registration.now (λ point. get_or magnitudes.now point 0) }
+    ensures places { FivePlaces result.shares }
 {
     let rounds = rounds(
         registration.iteration,

@@ -2,16 +2,15 @@
 // into a result list.
 #![tactic(auto)]
 
-ghost use Rattle.std.specs.Prelude.{◌≡◌, true, ◌+◌, ◌*◌, ◌≤◌, ℕ, ◌<◌, length, get_or, sum};
+ghost use Rattle.std.specs.Prelude.{◌≡◌, ◌*◌, ◌≤◌, ℕ, ◌<◌, length, get_or, sum};
 ghost use Rattle.lists.specs.Place.{placed};
-ghost use Rattle.lists.specs.Pages.{Added};
-ghost use Rattle.calendar.specs.Quarters.{quarter_exists};
-ghost use Rattle.registration.specs.Rules.{points, place_at};
+ghost use Rattle.lists.specs.Pages.{Room, Added};
+ghost use Rattle.registration.specs.Rules.{points};
 ghost use Rattle.registration.specs.Pairs.{pairs_in};
 ghost use Rattle.journal.specs.Stored.{entries_in};
-ghost use Rattle.journal.specs.Damage.{Right};
 ghost use Rattle.allocation.specs.Input.{Shareable};
 ghost use Rattle.allocation.specs.Result.{pairs_of};
+ghost use Rattle.allocation.specs.Working.{by_pair, FivePlaces};
 ghost use Rattle.lookup.specs.Substitutes.{number_of_origin};
 ghost use Rattle.lookup.specs.Working.{value_of_point};
 ghost use Rattle.evaluation.specs.Evaluation.{result_from};
@@ -20,7 +19,7 @@ ghost use Rattle.evaluation.specs.Working.{values_in, origins_of, result_in};
 
 use allocation::Allocated;
 use lists::Page;
-use lookup::{Asked, Lookup, PointValue};
+use lookup::{Lookup, PointValue};
 use registration::Registration;
 
 // The most numbers that the result of an undamaged registration has.
@@ -62,20 +61,19 @@ pub fn layout_of(registration: &Registration) -> Layout
 }
 
 // Puts the pairs' shares, consumers in order and priorities within.
-fn put_shares(page: &mut Page<u64>, registration: &Registration, shares: &[u64; 320])
-    requires { Shareable registration.now × (page.old.end + pairs_in registration.now ≤ length page.old.space.now) }
-    ensures { Added (pairs_of registration.now (place_at shares.now)) page.old page.new }
+fn put_shares(page: &mut Page<u64>, registration: &Registration, shares: &[[u64; 5]; 64])
+    requires { Shareable registration.now × FivePlaces shares.now × Room (pairs_in registration.now) page.old }
+    ensures { Added (pairs_of registration.now (by_pair shares.now)) page.old page.new }
 {
-    for consumer in 0..registration.consumers {
-        let first = Registration::SOURCES * consumer;
-        let end = first + usize::from(registration.counts[consumer]);
-        page.put(&shares[first..end]);
+    let counts = &registration.counts[..registration.consumers];
+    for (row, count) in shares.iter().zip(counts) {
+        page.put(&row[..usize::from(*count)]);
     }
 }
 
 // Puts the number of each value's origin.
 fn put_origins(page: &mut Page<u64>, values: &[PointValue])
-    requires { page.old.end + length values.now ≤ length page.old.space.now }
+    requires { Room (length values.now) page.old }
     ensures { Added (origins_of values.now) page.old page.new }
 {
     for value in values {
@@ -90,7 +88,7 @@ fn put_parts(
     allocated: &Allocated,
     values: &[PointValue],
 )
-    requires { Shareable registration.now × (length values.now ≡ points registration.now) × (size_of registration.now ≤ length list.old) }
+    requires { Shareable registration.now × FivePlaces allocated.now.shares × (length values.now ≡ points registration.now) × (size_of registration.now ≤ length list.old) }
     ensures { list.new ≡ placed 0 (result_of (result_in registration.now allocated.now (origins_of values.now))) list.old }
 {
     let points = registration.points();
@@ -112,18 +110,13 @@ fn magnitudes(values: [PointValue; 64]) -> [u64; 64]
     values.map(|value| value.magnitude)
 }
 
-// The result of a quarter hour as of a stamp, put into the result list, whose later numbers stay. Returns the round count.
-pub fn evaluate(
-    registration: &Registration,
-    entries: &[[u64; 3]],
-    asked: Asked,
-    list: &mut [u64],
-) -> usize
-    requires { Shareable registration.now × (quarter_exists asked.day asked.quarter ≡ true) × Right (entries_in entries.now) × (size_of registration.now ≤ length list.old) }
-    ensures { ResultPut (result_from registration.now (values_in registration.now (entries_in entries.now) asked.day asked.quarter asked.until)) list.old list.new result }
+// The result of a look-up's quarter hour, put into the result list, whose later numbers stay. Returns the round count.
+pub fn evaluate(registration: &Registration, lookup: Lookup, list: &mut [u64]) -> usize
+    requires { Shareable registration.now × (size_of registration.now ≤ length list.old) }
+    ensures { ResultPut (result_from registration.now (values_in registration.now (entries_in lookup.entry.entries.now) lookup.entry.asked.day lookup.entry.asked.quarter lookup.entry.asked.until)) list.old list.new result }
 {
     let points = registration.points();
-    let values = Lookup { entries, asked }.values(&registration.statuses[..points]);
+    let values = lookup.values(&registration.statuses[..points]);
     let allocated = allocation::allocate(registration, &magnitudes(values));
     put_parts(list, registration, &allocated, &values[..points]);
     allocated.rounds

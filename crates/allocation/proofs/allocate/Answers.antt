@@ -25,5 +25,9 @@ loop-preserved c =
 pub returns : goal.returns
 returns c =
     let r = c.args.registration.now in
-    held c.requires.0 c.requires.1 c.loop.invariant (omega arith)
-    (c.rounds-rounds.ensures ∙ ap (λ (n : ℕ). rounds_of r.iteration n r.consumers) c.points.ensures)
+    record {
+      held =
+          held c.requires.0 c.requires.1 c.loop.invariant (omega arith)
+          (c.rounds-rounds.ensures ∙ ap (λ (n : ℕ). rounds_of r.iteration n r.consumers) c.points.ensures);
+      places = c.loop.invariant.places;
+    }
