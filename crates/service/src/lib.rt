@@ -8,7 +8,7 @@ ghost use Rattle.service.specs.Promises.{fresh_of, Submits, Clears, Evaluates};
 
 use answers::Refusal;
 use group::{Group, Looked, Numbers};
-use lookup::Asked;
+use lookup::{Asked, Lookup};
 use registration::Registration;
 use values::Measurement;
 
@@ -123,7 +123,8 @@ impl Service {
     {
         self.group(journal).evaluation_verdict(asked, list)?;
         let entries = journal::entries(journal, self.state.numbers.entries);
-        let rounds = evaluation::evaluate(&self.registration, entries, asked, list);
+        let lookup = Lookup { entries, asked };
+        let rounds = evaluation::evaluate(&self.registration, lookup, list);
         Ok(rounds)
     }
 }

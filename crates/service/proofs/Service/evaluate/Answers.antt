@@ -1,5 +1,6 @@
 -- `service::Service::evaluate` meets its contract. Assumes nothing.
 use Rattle.std.proofs.Common.{◌≡◌, sym, Ok}
+use Rattle.std.proofs.lemmas.Grind.{merely}
 use Rattle.std.proofs.lemmas.Result.{err_from_is_err_and}
 use Rattle.group.specs.Refusals.{evaluation_verdict}
 use Rattle.service.specs.Record.{group_of}
@@ -20,10 +21,15 @@ accepted c = rw (c.group.ensures.0, c.group.ensures.1) at (sym c.in_ok-evaluatio
 pub entries-entries-requires : goal.entries-entries-requires
 entries-entries-requires c = (evaluation_asked _ _ _ _ (accepted (goal.at.entries-entries-requires c).In_ok-evaluation_verdict)).2
 
+pub invariant_of-lookup : goal.invariant_of-lookup
+invariant_of-lookup c =
+    let asked = evaluation_asked _ _ _ _ (accepted (goal.at.invariant_of-lookup c).In_ok-evaluation_verdict) in
+    record { readable = merely (record { exists = asked.1; right = rw c.entries-entries.ensures asked.3 }) }
+
 pub evaluate-rounds-requires : goal.evaluate-rounds-requires
 evaluate-rounds-requires c =
     let asked = evaluation_asked _ _ _ _ (accepted (goal.at.evaluate-rounds-requires c).In_ok-evaluation_verdict) in
-    (asked.0, asked.1, rw c.entries-entries.ensures asked.3, asked.4)
+    (asked.0, asked.4)
 
 pub returns : goal.returns
 returns c = evaluates_accepted _ _ _ _ (accepted (goal.at.returns c).In_ok-evaluation_verdict) _ _ (rw c.entries-entries.ensures at c.evaluate-rounds.ensures)
