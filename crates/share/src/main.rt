@@ -41,6 +41,7 @@ fn answer_lines<W: Write>(writer: &mut W, opened: Opened) -> io::Result<()>
     let mut journal = [0; JOURNAL_NUMBERS];
     let mut out = [0; event_text::ANSWER_MOST];
     let mut rest = events;
+    // As `for line in events.split_inclusive(..)` its proof did not close: what the prover itself writes for that loop does not check.
     while !rest.is_empty() {
         let (line, later) = lines::split_line(rest);
         let bytes = event_text::answer(&mut service, &mut journal, line, &mut out).unwrap();
