@@ -1,5 +1,5 @@
 -- The nearest whole number by the quotient and what is left over; a mean is that of a sum and a number of values. Assumes nothing.
-use Rattle.std.proofs.Common.{◌≡◌, ℕ, ◌+◌, ◌-◌, ◌*◌, ◌/◌, ◌%◌, ◌<◌, ◌≤◌, List, length, refl, ap, ◌∙◌, mod-lt, mul_comm, add-mul, mul-le-mul, mul_left_comm, arith}
+use Rattle.std.proofs.Common.{◌≡◌, ℕ, ◌+◌, ◌-◌, ◌*◌, ◌/◌, ◌%◌, ◌<◌, ◌≤◌, List, length, refl, ap, ◌∙◌, mod-lt, mul_comm, add-mul, mul_left_comm, arith}
 use native.Mathlib.Nat.{mul-div-le, lt-mul-div-succ, div-add-mod, div-eq_of_lt-le}
 use Rattle.lookup.specs.Mean.{sum_of, nearest, mean_of}
 
@@ -36,9 +36,3 @@ module _ (sum count : ℕ) (some : 1 ≤ count) where
       ∙ div-eq_of_lt-le (2 * count)
       (rw add-mul (omega (arith, doubled (sum / count) count, div-add-mod sum count)))
       (rw (add-mul, add-mul) (omega (arith, doubled (sum / count) count, div-add-mod sum count, mod-lt sum {m = count} some)))
-
-  -- there is a greater number than the quotient among those up to the sum, where anything is left over
-  pub one_more_fits : count - sum % count ≤ sum % count → sum / count + 1 ≤ sum
-  one_more_fits h =
-      let p : 2 * (sum / count) ≤ count * (sum / count) = mul-le-mul (omega (arith, mod-lt sum {m = count} some)) (omega arith) in
-      omega (arith, div-add-mod sum count, p)

@@ -3,7 +3,9 @@
 use Rattle.std.proofs.Common.{◌≡◌, ℕ, ◌+◌, ◌≤◌, true, leb, ltb, List, [], ◌∷◌, refl, arith, ltb-true, lt-ltb, le-leb}
 use Rattle.std.proofs.Math.Bool.{Bool-set}
 use Rattle.std.proofs.Math.Logic.{∥∥₁_elim}
+use Rattle.calendar.specs.Dates.{last_day}
 use Rattle.calendar.specs.Quarters.{quarter_exists}
+use Rattle.calendar.proofs.Laws.{exists_day, exists_quarter}
 use Rattle.journal.specs.declared.Entry.{Entry}
 use Rattle.journal.specs.Value.{stored_right}
 use Rattle.journal.specs.Entries.{point_in, day_in, quarter_in}
@@ -57,3 +59,11 @@ readable_in lookup =
         };
       };
     }
+
+-- so the day that is asked for is one of the calendar, and its quarter is from 1 to 100
+pub asked_within : (lookup : Lookup) → (lookup.asked.day ≤ last_day) × (1 ≤ lookup.asked.quarter) × (lookup.asked.quarter ≤ 100)
+asked_within lookup =
+    let exists = (readable_in lookup).exists in
+    let day = exists_day lookup.asked.day lookup.asked.quarter exists in
+    let quarter = exists_quarter lookup.asked.day lookup.asked.quarter exists in
+    (omega arith, omega arith, omega arith)

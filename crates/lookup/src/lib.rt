@@ -3,14 +3,12 @@
 #![tactic(auto)]
 
 ghost use Rattle.std.specs.Prelude.{◌≡◌, ◌*◌, ◌<◌, ◌≤◌, length};
-ghost use Rattle.values.specs.Values.{magnitude_most};
 ghost use Rattle.journal.specs.Entries.{point_places};
 ghost use Rattle.journal.specs.Stored.{entries_in};
 ghost use Rattle.lookup.specs.Substitutes.{number_of_origin};
 ghost use Rattle.lookup.specs.Working.{Readable, own_value, looked_up_in, value_for, TakenIn, OwnOf, AllOf};
 
 use journal::{Entry, POINT_PLACES};
-use weeks::mean;
 
 mod weeks;
 
@@ -89,7 +87,8 @@ impl Lookup<'_> {
     }
 
     // The value of a point and its origin: its reading, where its own quarter hour has one, else the substitute: zero by a status above 0, else the mean
-    // of the earlier weeks that have a reading, and zero where none has.
+    // of the earlier weeks that have a reading, and zero where none has. A status is a number, as the registration has it: only whether it is above 0 is
+    // asked.
     fn look_up(&self, point: usize, status: u8, own: Option<u64>) -> PointValue
         requires { (point < 64) × (value_for own ≡ own_value (entries_in self.now.entries.now) self.now.asked point) }
         ensures { result ≡ looked_up_in (entries_in self.now.entries.now) self.now.asked point status }
@@ -107,20 +106,20 @@ impl Lookup<'_> {
             };
         }
         let weeks = self.earlier_weeks(point as u64);
-        if weeks.count == 0 {
-            return PointValue {
+        match weeks.mean() {
+            Some(magnitude) => PointValue {
+                magnitude,
+                origin: Origin::Weeks(weeks.count),
+            },
+            None => PointValue {
                 magnitude: 0,
                 origin: Origin::ZeroForLack,
-            };
-        }
-        let magnitude = mean(weeks.sum, weeks.count);
-        PointValue {
-            magnitude,
-            origin: Origin::Weeks(weeks.count),
+            },
         }
     }
 
-    // The values of all points, producers first, each by its status; what stands at places of no point is free.
+    // The values of all points, producers first, each by its status; what stands at places of no point is free. An array of 64, since there is no heap:
+    // how many of its places are points' the statuses tell.
     pub fn values(&self, statuses: &[u8]) -> [PointValue; 64]
         requires { length statuses.now ≤ 64 }
         ensures { AllOf (entries_in self.now.entries.now) self.now.asked statuses.now result }

@@ -17,16 +17,17 @@ returns-then-status-gt0 c =
     value_inactive (entries_in a.self.now.entries.now) a.self.now.asked a.point a.status (rw c.in_default.is at c.requires.1)
     (by_test (not_active a.status) (λ t. t) (λ f. absurd (omega (arith, ltb-false))))
 
-pub returns-then-weeks-eq0 : goal.returns-then-weeks-eq0
-returns-then-weeks-eq0 c =
+pub returns-in-Some-mean : goal.returns-in-Some-mean
+returns-in-Some-mean c =
+    let a = c.args in
+    let weeks = c.earlier_weeks-weeks in
+    let mean = c.in-Some-mean.ensures in
+    value_mean (entries_in a.self.now.entries.now) a.self.now.asked a.point a.status (rw c.in_default.is at c.requires.1) weeks.result weeks.ensures
+    (by_test (not_active a.status) (λ t. absurd (omega (arith, ltb-true))) (λ f. f)) c.in-Some-mean.magnitude mean.0 mean.1
+
+pub returns-in-None : goal.returns-in-None
+returns-in-None c =
     let a = c.args in
     let weeks = c.earlier_weeks-weeks in
     value_lacking (entries_in a.self.now.entries.now) a.self.now.asked a.point a.status (rw c.in_default.is at c.requires.1) weeks.result weeks.ensures
-    (by_test (not_active a.status) (λ t. absurd (omega (arith, ltb-true))) (λ f. f)) (omega arith)
-
-pub returns : goal.returns
-returns c =
-    let a = c.args in
-    let weeks = c.earlier_weeks-weeks in
-    value_mean (entries_in a.self.now.entries.now) a.self.now.asked a.point a.status (rw c.in_default.is at c.requires.1) weeks.result weeks.ensures
-    (by_test (not_active a.status) (λ t. absurd (omega (arith, ltb-true))) (λ f. f)) c.mean-magnitude.result (omega arith) c.mean-magnitude.ensures
+    (by_test (not_active a.status) (λ t. absurd (omega (arith, ltb-true))) (λ f. f)) (omega (arith, c.in-None.ensures))

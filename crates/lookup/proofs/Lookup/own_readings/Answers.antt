@@ -1,18 +1,12 @@
 -- `lookup::Lookup::own_readings` meets its contract: the entries passed have been taken in. Assumes nothing.
 use Rattle.std.proofs.Common.{arith}
-use Rattle.std.proofs.lemmas.List.{take_all}
-use Rattle.calendar.proofs.Laws.{exists_day, exists_quarter}
 use Rattle.lookup.proofs.Passed.{next_bounds}
 use Rattle.lookup.proofs.Own.{slot_bound, own_none, own_next}
-use Rattle.lookup.proofs.Opened.{readable_in}
+use Rattle.lookup.proofs.Opened.{readable_in, asked_within}
 use Rattle.lookup.proofs.Lookup.own_readings.Goals as goal
 
 pub place-slot-requires : goal.place-slot-requires
-place-slot-requires c =
-    let a = c.args.self.now in
-    let known = readable_in a in
-    let asked = a.asked in
-    omega (arith, exists_day asked.day asked.quarter known.exists, exists_quarter asked.day asked.quarter known.exists)
+place-slot-requires c = omega (arith, asked_within c.args.self.now)
 
 pub loop-numbers-init : goal.loop-numbers-init
 loop-numbers-init c =
@@ -35,9 +29,3 @@ loop-numbers-preserved c =
     let l = c.loop-numbers in
     let taken = rw (c.from.ensures, c.place-slot.ensures) at c.take_in.ensures in
     own_next a.asked known.exists a.entries.now known.right l.numbers-index (omega arith) l.own c.take_in.new.own c.take_in.auto.own l.invariant taken
-
-pub returns : goal.returns
-returns c =
-    let a = c.args.self.now in
-    let l = c.loop-numbers in
-    rw (take_all l.numbers-index a.entries.now (omega arith)) at l.invariant
