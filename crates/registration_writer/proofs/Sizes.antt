@@ -1,10 +1,13 @@
 -- How long the lines of a registration are, and its lines as pieces one after the other. Assumes nothing.
-use Prim.Native.Nat.{ℕ, zero, suc, ◌+◌, ◌*◌}
+use Prim.Native.Nat.{ℕ, zero, suc, ◌+◌, ◌*◌, ◌≤◌}
 use mathlib.Core.Path.{◌≡◌, refl, ◌∙◌}
 use mathlib.Core.List.{List, [], ◌∷◌, ◌++◌}
 use native.Mathlib.Nat.{add_assoc}
+use native.Mathlib.Numerals.{add-one}
 use native.Mathlib.Omega.{arith}
-use lib.ListN.{length, get_or, length-append}
+use lib.ListN.{length, take, get_or, length-append}
+use Rattle.std.specs.List.{sum_by}
+use Rattle.std.proofs.lemmas.List.Sums.{sum_by_more}
 use Rattle.columns.specs.Fields.{columns_of}
 use Rattle.columns.proofs.Laws.{columns_of_nil, columns_append, length_columns}
 use Rattle.lines.proofs.Laws.{length_line}
@@ -64,6 +67,15 @@ length_pairs source key n = length_even _ 10 n (length_pair source key)
 -- how long a consumer's line is, by how many producers each names
 abbrev pub length_o : List ℕ → ℕ → ℕ
 length_o counts consumer = 25 + 10 * get_or counts consumer 0
+
+-- the lengths of the first consumers' lines, summed over the counts
+pub sum_o : (counts : List ℕ) (n : ℕ) → n ≤ length counts → sum_by (λ count. 25 + 10 * count) (take n counts) ≡ sum_below (length_o counts) n
+unfolding sum_below
+sum_o counts zero h = refl
+sum_o counts (suc n) h =
+    let more : sum_by (λ count. 25 + 10 * count) (take (n + 1) counts) ≡ sum_by (λ count. 25 + 10 * count) (take n counts) + length_o counts n =
+    sum_by_more (λ count. 25 + 10 * count) counts n 0 h in
+    rw (← add-one n, more, sum_o counts n (omega arith))
 
 pub length__o : (r : Registration) (consumer : ℕ) → length (line_o r consumer) ≡ length_o r.counts consumer
 length__o r consumer =

@@ -1,7 +1,7 @@
 -- The whole text of a registration: what an undamaged one gives its writers, its parts put one after the other, and the verdict. Assumes nothing.
 use Prim.Native.Nat.{ℕ, ◌+◌, ◌*◌, ◌≤◌, ◌<◌}
-use mathlib.Core.Path.{◌≡◌, refl, ◌∙◌}
-use mathlib.Core.Bool.{true, false}
+use mathlib.Core.Path.{◌≡◌, refl, sym, ◌∙◌}
+use mathlib.Core.Bool.{false}
 use mathlib.Core.List.{List}
 use native.Mathlib.Nat.{zero-add}
 use lib.ListN.{length}
@@ -10,11 +10,12 @@ use Rattle.std.specs.Prelude.{Result, Ok, Err}
 use Rattle.answers.specs.declared.Refusal.{Refusal}
 use Rattle.answers.specs.Numbers.{Verdict}
 use Rattle.std.specs.Result.{result_and}
-use Rattle.answers.proofs.Refusals.{refusals}
+use Rattle.answers.proofs.Refusals.{refusals, stopped, gone_on, passed}
 use Rattle.lists.specs.Place.{placed, Put}
+use Rattle.lists.proofs.Cases.{by_test}
 use Rattle.registration.specs.declared.Registration.{Registration}
 use Rattle.registration.specs.Rules.{count_at, count_right, consumer_right}
-use Rattle.registration.specs.Damage.{is_damaged}
+use Rattle.registration.specs.Damage.{is_damaged, soundness}
 use Rattle.registration.proofs.Bounds.{count_bounds}
 use Rattle.lists.proofs.Below.{every_at, and_left}
 use Rattle.registration.proofs.Damage.{undamaged_parts, point_bounds}
@@ -24,6 +25,9 @@ use Rattle.lists.specs.declared.Page.{Page}
 use Rattle.lists.specs.Pages.{Added}
 use Rattle.lists.proofs.Adding.{added_then}
 use Rattle.registration_writer.proofs.Sizes.{lines__d, length_lines__d}
+
+pub sound : (r : Registration) → soundness r ≡ Ok tt → is_damaged r ≡ false
+sound r e = (passed Damaged (is_damaged r) (Ok tt) e).0
 
 module _ (r : Registration) (undamaged : is_damaged r ≡ false) where
   pub few_points : r.producers + r.consumers ≤ 64
@@ -50,9 +54,15 @@ module _ (r : Registration) (before : List ℕ) where
       → written ≡ result_and verdict (Ok (length (text_of r))) → after ≡ buffer_after verdict (text_of r) before → Wrote r before after written
   by_verdict verdict e a b = record { answer = a ∙ rw e; buffer = b ∙ rw e }
 
-  pub refused_damaged : is_damaged r ≡ true → Wrote r before before (Err Damaged)
+  pub refused_damaged : (refusal : Refusal) → soundness r ≡ Err refusal → Wrote r before before (Err refusal)
   unfolding verdict_of_writing
-  refused_damaged d = by_verdict (Err Damaged) (search refusals) refl refl
+  refused_damaged refusal e =
+      by_test (is_damaged r)
+      (λ d.
+      let same : Err Damaged ≡ Err refusal = sym (stopped Damaged (is_damaged r) (Ok tt) d) ∙ e in
+      let is : Damaged ≡ refusal = cc in
+      rw (← is) (by_verdict (Err Damaged) (search refusals) refl refl))
+      (λ d. let never : Ok tt ≡ Err refusal = sym (gone_on Damaged (is_damaged r) (Ok tt) d) ∙ e in cc)
 
   pub refused_short : is_damaged r ≡ false → length before < length (text_of r) → Wrote r before before (Err TooShort)
   unfolding verdict_of_writing

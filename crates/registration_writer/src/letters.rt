@@ -1,7 +1,7 @@
 // The lines of a registration, put on a page one after the other.
 ghost use Rattle.std.specs.Prelude.{◌≡◌, ℕ, ◌+◌, ◌*◌, ◌≤◌, ◌<◌, length};
-ghost use Rattle.lists.specs.Pages.{Added};
-ghost use Rattle.registration.specs.Rules.{count_at};
+ghost use Rattle.lists.specs.Pages.{Room, Added};
+ghost use Rattle.registration.specs.Rules.{points, count_at};
 ghost use Rattle.registration_text.specs.Lines.{line_g, line_o};
 ghost use Rattle.registration_text.specs.Writer.{lines_d, lines_o, text_of};
 
@@ -9,28 +9,30 @@ use lists::Page;
 use registration::Registration;
 use registration_text::{CONSUMER, FIXED, GROUP, PAIR, PAIR_BYTES, PRODUCER};
 
-// The bytes of a line of the group, of a producer, and of a consumer without its pairs.
+// The bytes of the line of the group.
 const GROUP_BYTES: usize = 12;
 
+// The bytes of a producer's line.
 const PRODUCER_BYTES: usize = 23;
 
+// The bytes of a consumer's line without its pairs.
 const CONSUMER_BYTES: usize = 25;
 
 // How many bytes the text of a registration takes.
 pub fn size(registration: &Registration) -> usize
-    requires { registration.now.producers + registration.now.consumers ≤ 64 }
+    requires { points registration.now ≤ 64 }
     ensures { result ≡ length (text_of registration.now) }
 {
-    let mut bytes = GROUP_BYTES + PRODUCER_BYTES * registration.producers;
-    for count in &registration.counts[..registration.consumers] {
-        bytes += CONSUMER_BYTES + PAIR_BYTES * usize::from(*count);
-    }
-    bytes
+    let consumers: usize = registration.counts[..registration.consumers]
+        .iter()
+        .map(|count| CONSUMER_BYTES + PAIR_BYTES * usize::from(*count))
+        .sum();
+    GROUP_BYTES + PRODUCER_BYTES * registration.producers + consumers
 }
 
 // Puts the G line.
 pub fn put_group(page: &mut Page<u8>, registration: &Registration)
-    requires { page.old.end + 12 ≤ length page.old.space.now }
+    requires { Room 12 page.old }
     ensures { Added (line_g registration.now) page.old page.new }
 {
     let numbers = [
@@ -43,20 +45,20 @@ pub fn put_group(page: &mut Page<u8>, registration: &Registration)
 
 // Puts the D lines of all producers.
 pub fn put_producers(page: &mut Page<u8>, registration: &Registration)
-    requires { (registration.now.producers ≤ 64) × (page.old.end + 23 * registration.now.producers ≤ length page.old.space.now) }
+    requires { (registration.now.producers ≤ 64) × Room (23 * registration.now.producers) page.old }
     ensures { Added (lines_d registration.now 0 registration.now.producers) page.old page.new }
 {
-    for producer in 0..registration.producers {
-        let status = registration.statuses[producer];
-        PRODUCER.put(page, [registration.codes[producer], u64::from(status)]);
+    let codes = &registration.codes[..registration.producers];
+    for (code, status) in codes.iter().zip(&registration.statuses) {
+        PRODUCER.put(page, [*code, u64::from(*status)]);
     }
 }
 
 // Puts a consumer's O line.
 fn put_consumer(page: &mut Page<u8>, registration: &Registration, consumer: usize)
-    requires among { (registration.now.producers + registration.now.consumers ≤ 64) × (consumer < registration.now.consumers) }
+    requires among { (points registration.now ≤ 64) × (consumer < registration.now.consumers) }
     requires count_bound { count_at registration.now consumer ≤ 5 }
-    requires room { page.old.end + (25 + 10 * count_at registration.now consumer) ≤ length page.old.space.now }
+    requires room { Room (25 + 10 * count_at registration.now consumer) page.old }
     ensures { Added (line_o registration.now consumer) page.old page.new }
 {
     let point = registration.producers + consumer;
@@ -72,18 +74,17 @@ fn put_consumer(page: &mut Page<u8>, registration: &Registration, consumer: usiz
             u64::from(count),
         ],
     );
-    for priority in 0..usize::from(count) {
-        let pair = registration.pair(consumer, priority);
+    for pair in &registration.pairs(consumer)[..usize::from(count)] {
         lines::put_columns(page, &PAIR, &[pair.source, pair.key]);
     }
     page.put(&[lines::LINE_FEED]);
 }
 
-// Puts the O lines of all consumers.
+// Puts the O lines of all consumers, by their numbers: code and status stand at a consumer's point, its count and pairs at its number.
 pub fn put_consumers(page: &mut Page<u8>, registration: &Registration)
-    requires points_bound { registration.now.producers + registration.now.consumers ≤ 64 }
+    requires points_bound { points registration.now ≤ 64 }
     requires by_index { (consumer : ℕ) → consumer < registration.now.consumers → count_at registration.now consumer ≤ 5 }
-    requires room { page.old.end + length (lines_o registration.now 0 registration.now.consumers) ≤ length page.old.space.now }
+    requires room { Room (length (lines_o registration.now 0 registration.now.consumers)) page.old }
     ensures { Added (lines_o registration.now 0 registration.now.consumers) page.old page.new }
 {
     for consumer in 0..registration.consumers {

@@ -13,9 +13,7 @@ mod letters;
 pub fn write(registration: &Registration, out: &mut [u8]) -> Result<usize, Refusal>
     ensures { Wrote registration.now out.old out.new result }
 {
-    if registration_damage::damaged(registration) {
-        return Err(Refusal::Damaged);
-    }
+    registration_damage::soundness(registration)?;
     let size = letters::size(registration);
     if out.len() < size {
         return Err(Refusal::TooShort);

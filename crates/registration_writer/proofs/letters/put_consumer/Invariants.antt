@@ -5,5 +5,5 @@ use Rattle.registration.specs.Rules.{source_at, key_at}
 use Rattle.registration_writer.proofs.Sizes.{pair_columns}
 use Rattle.registration_writer.proofs.letters.put_consumer.Given as goal
 
-abbrev pub invariant-loop-priority : goal.invariant-loop-priority
-invariant-loop-priority l = Added (joined (pair_columns (source_at l.registration l.consumer) (key_at l.registration l.consumer)) l.priority) l.initial.page l.page
+abbrev pub invariant-loop-pair : goal.invariant-loop-pair
+invariant-loop-pair l = Added (joined (pair_columns (source_at l.registration l.consumer) (key_at l.registration l.consumer)) l.pair-index) l.initial.page l.page

@@ -1,52 +1,46 @@
 -- `registration_writer::letters::size` meets its contract: the lengths of the lines are summed. Assumes nothing.
-use Prim.Native.Nat.{ℕ, ◌<◌, ◌≤◌}
-use mathlib.Core.Path.{◌≡◌, ◌∙◌}
+use Prim.Native.Nat.{ℕ, ◌+◌, ◌*◌, ◌<◌, ◌≤◌}
+use mathlib.Core.Path.{◌≡◌}
 use mir.Syntax.{w8}
 use mir.Val.{Fits}
 use native.Mathlib.Omega.{arith}
-use borrow.Author.Rules.{rules}
+use Rattle.std.proofs.Common.{rules, tests}
 use lib.ListN.{length, get_or, take}
-use lib.Seq.{length-take-le, get_or-take}
-use Rattle.lists.proofs.Below.{sum_none, sum_next, sum_bound}
-use Rattle.registration.specs.declared.Registration.{Registration}
-use Rattle.registration_writer.proofs.Sizes.{length_o, length_text}
+use Rattle.std.specs.List.{sum_by}
+use Rattle.std.proofs.lemmas.Iterator.{YieldsList-from_slice, YieldsList-from_map}
+use Rattle.std.proofs.lemmas.Iterator.Consumers.{fits_by_from_yields_list}
+use Rattle.lists.proofs.Below.{sum_bound}
+use Rattle.registration_writer.proofs.Sizes.{length_o, length_text, sum_o}
+use Rattle.registration_text.specs.Writer.{text_of}
 use Rattle.registration_writer.proofs.letters.size.Goals as goal
-use Rattle.registration_writer.proofs.letters.size.Goals.{After-from, After-loop-count}
+use Rattle.registration_writer.proofs.letters.size.Goals.{After-map, After-sum-consumers}
 
--- the loop goes over the counts of the consumers
-as_many : (r : Registration) → length r.counts ≡ 64 → r.consumers ≤ 64 → length (take r.consumers r.counts) ≡ r.consumers
-as_many r size few = length-take-le r.consumers r.counts (omega arith)
+-- the bytes of a consumer's line, by how many producers it names
+abbrev bytes : ℕ → ℕ
+bytes count = 25 + 10 * count
 
-count_is : (c : After-from) → c.from.result ≡ get_or c.args.registration.now.counts c.loop-count.count-index 0
-count_is c =
+-- they are summed over the counts of the consumers, of which each is a byte
+total : (c : After-map) → let r = c.args.registration.now in
+    (sum_by bytes (take r.consumers r.counts) ≤ 164800) × (length (text_of r) ≡ 12 + 23 * r.producers + sum_by bytes (take r.consumers r.counts))
+total c =
     let r = c.args.registration.now in
     let size : length r.counts ≡ 64 = search rules in
-    let l = as_many r size (omega arith) in
-    c.from.ensures ∙ get_or-take r.consumers r.counts c.loop-count.count-index 0 (omega arith)
+    let sum = sum_o r.counts r.consumers (omega arith) in
+    let byte : (i : ℕ) → get_or r.counts i 0 < 256 = λ i. let f : Fits w8 (get_or r.counts i 0) = search rules in f.fits in
+    (omega (arith, sum_bound (length_o r.counts) 2575 r.consumers (λ i h. omega (arith, byte i))), omega (arith, length_text r))
 
--- a count is a byte
-byte : (c : After-from) (i : ℕ) → get_or c.args.registration.now.counts i 0 < 256
-byte c i = let f : Fits w8 (get_or c.args.registration.now.counts i 0) = search rules in f.fits
+pub sum-consumers-requires-clause-fits : goal.sum-consumers-requires-clause-fits
+sum-consumers-requires-clause-fits c =
+    fits_by_from_yields_list bytes (take c.args.registration.now.consumers c.args.registration.now.counts) c.map.result _
+    (YieldsList-from_map _ bytes (YieldsList-from_slice (take c.args.registration.now.consumers c.args.registration.now.counts) (cc)) c.map.ensures.closure
+    (λ x r q k. search (rules, tests)))
+    (omega (arith, total (goal.at.sum-consumers-requires-clause-fits c).After-map))
 
-pub loop-count-init : goal.loop-count-init
-loop-count-init c = omega (arith, sum_none (length_o c.args.registration.now.counts))
+sum_is : (c : After-sum-consumers) → c.sum-consumers.result ≡ sum_by bytes (take c.args.registration.now.consumers c.args.registration.now.counts)
+sum_is c = search rules
 
-pub overflow_add-bytes-in-loop-count-2 : goal.overflow_add-bytes-in-loop-count-2
-overflow_add-bytes-in-loop-count-2 c =
-    let r = c.args.registration.now in
-    let i = c.loop-count.count-index in
-    let size : length r.counts ≡ 64 = search rules in
-    let l = as_many r size (omega arith) in
-    let e = count_is c in
-    omega (arith, byte c i, sum_bound (length_o r.counts) 2575 i (λ k h. omega (arith, byte c k)))
-
-pub loop-count-preserved : goal.loop-count-preserved
-loop-count-preserved c = omega (arith, count_is c, sum_next (length_o c.args.registration.now.counts) c.loop-count.count-index)
+pub overflow_add-result-2 : goal.overflow_add-result-2
+overflow_add-result-2 c = omega (arith, sum_is c, total (goal.at.overflow_add-result-2 c).After-map)
 
 pub returns : goal.returns
-returns c =
-    let r = c.args.registration.now in
-    let size : length r.counts ≡ 64 = search rules in
-    let l = as_many r size (omega arith) in
-    let e : r.consumers ≡ c.loop-count.count-index = omega arith in
-    c.loop-count.invariant ∙ rw (length_text, e)
+returns c = omega (arith, sum_is c, total (goal.at.returns c).After-map)
