@@ -30,7 +30,6 @@ pub record LineKind : Type 0 where
 
 -- so many lines of a text have been read, and the others are left
 pub record Reading (kind : LineKind) (count : ℕ) (begun : Registration) (text : List ℕ) (r : Registration) (left : List ℕ) (i : ℕ) : Type 0 where
-  pub some_left : i ≤ count
   pub stage : kind.read 0 count begun text ≡ kind.read i (count - i) r left
   pub producers : r.producers ≡ begun.producers
   pub consumers : r.consumers ≡ begun.consumers
@@ -58,7 +57,6 @@ module _ {kind : LineKind} {count : ℕ} {begun : Registration} {text : List ℕ
         let line = first_line left in
         let one : i + 1 ≡ suc i = omega arith in
         record {
-          some_left = omega arith;
           stage = rw (one, is) (stage_next ∙ rw accepted);
           producers = ap (λ (r : Registration). r.producers) is ∙ kind.producers r i line ∙ reading.producers;
           consumers = ap (λ (r : Registration). r.consumers) is ∙ kind.consumers r i line ∙ reading.consumers;

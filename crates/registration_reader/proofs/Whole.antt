@@ -1,15 +1,16 @@
 -- A text from its stages: the G line, the lines of the producers and of the consumers, and the verdict on the whole. Assumes nothing.
 use Prim.Native.Nat.{ℕ, ◌+◌, ◌≤◌}
-use mathlib.Core.Path.{◌≡◌, refl}
+use mathlib.Core.Path.{◌≡◌, sym}
 use mathlib.Core.Bool.{not}
 use mathlib.Core.List.{List}
-use Rattle.std.specs.Prelude.{Option, Ok, Err}
-use Rattle.std.specs.Result.{result_and}
+use Rattle.std.specs.Prelude.{Option, Result, Ok, Err}
+use Rattle.std.specs.Result.{result_and, IsErrAnd}
+use Rattle.std.proofs.lemmas.Result.{err_from_is_err_and}
+use Rattle.answers.proofs.Values.{refused_told, given_told}
 use native.Mathlib.Omega.{arith}
 use borrow.Author.Tests.{not-false}
 use Rattle.answers.specs.declared.Refusal.{Refusal}
 use Rattle.answers.specs.declared.Refusal.TheVariants.{NotInColumns, CountOutside}
-use Rattle.answers.specs.Numbers.{Verdict}
 use Rattle.answers.proofs.Refusals.{passed}
 use Rattle.columns.specs.Fields.{nth, is_none}
 use Rattle.lines.specs.Line.{first_line, after_line}
@@ -21,14 +22,9 @@ use Rattle.registration_text.specs.Lines.{letter_g, widths_g}
 use Rattle.registration_text.specs.Reader.{verdict_g, verdict_of_all, with_counts, read_g, read_d, read_o, read_text}
 use Rattle.registration_text.proofs.Going.{going}
 
--- what a verdict gives with a value: refused where it refuses, and the value where it accepts
-pub refused_with : {T : Type 0} (verdict : Verdict) (value : T) (refusal : Refusal) → result_and verdict (Ok value) ≡ Err refusal → verdict ≡ Err refusal
-refused_with (Ok _) value refusal e = let z : ◌≡◌ {A = ℕ} 0 1 = cc in absurd (omega arith)
-refused_with (Err other) value refusal e = cc
-
-pub accepted_with : {T : Type 0} (verdict : Verdict) (value given : T) → result_and verdict (Ok value) ≡ Ok given → (verdict ≡ Ok tt) × (given ≡ value)
-accepted_with (Ok _) value given e = (refl, cc)
-accepted_with (Err other) value given e = let z : ◌≡◌ {A = ℕ} 0 1 = cc in absurd (omega arith)
+-- what the exit of a `?` returns
+pub exits : (given told : Result Registration Refusal) (refusal : Refusal) → IsErrAnd given (λ other. other ≡ refusal) → Err refusal ≡ told → given ≡ told
+exits given told refusal is e = let p = err_from_is_err_and given is in rw (p.1, p.2) e
 
 -- ---- the G line
 
@@ -49,15 +45,15 @@ module _ (text : List ℕ) where
 
   pub group_stops : (refusal : Refusal) → result_and (verdict_g numbers) (Ok counted) ≡ Err refusal → read_g text ≡ Err refusal
   unfolding read_g
-  group_stops refusal e = rw (refused_with (verdict_g numbers) counted refusal e)
+  group_stops refusal e = rw (refused_told (verdict_g numbers) counted refusal (sym e))
 
   module _ (r : Registration) (e : result_and (verdict_g numbers) (Ok counted) ≡ Ok r) where
     pub group_goes : read_g text ≡ going r (after_line text)
     unfolding read_g
-    group_goes = let a = accepted_with (verdict_g numbers) counted r e in rw (a.0, a.1)
+    group_goes = let a = given_told (verdict_g numbers) counted r (sym e) in rw (a.0, a.1)
 
     pub group_within : r.producers + r.consumers ≤ 64
-    group_within = let a = accepted_with (verdict_g numbers) counted r e in rw a.1 (counts_within numbers a.0)
+    group_within = let a = given_told (verdict_g numbers) counted r (sym e) in rw a.1 (counts_within numbers a.0)
 
 -- ---- the text
 

@@ -11,11 +11,13 @@ use answers::Refusal;
 use registration::{Pair, Registration};
 use registration_text::{CONSUMER, FIXED, FIXED_BYTES, GROUP, PAIR, PAIR_BYTES, PRODUCER};
 
-// The most that a line may say, as its columns have it; a constant takes no call, so `as` widens the numbers.
+// The last status that a line may have, as its columns say it; a constant takes no call, so `as` widens the number.
 const STATUS_MOST: u64 = Registration::STATUS_MOST as u64;
 
+// The last iteration.
 const ITERATION_MOST: u64 = Registration::ITERATION_MOST as u64;
 
+// The most producers that a consumer may name.
 const SOURCES_MOST: u64 = Registration::SOURCES as u64;
 
 // Reads a G line: a registration with its counts, and no points yet.
@@ -80,13 +82,14 @@ fn read_fixed(line: &[u8]) -> Option<[u64; 3]>
     lines::read_columns(&line[1..], &FIXED)
 }
 
-// The pairs in the columns at the front of the bytes, so many of them, and pairs of zeros after them.
+// The pairs in the columns at the front of the bytes, so many of them, and pairs of zeros after them: there is no heap for a list of those alone, and the
+// count stands beside the pairs.
 fn read_pairs(bytes: &[u8], count: usize) -> Option<[Pair; 5]>
     requires count_bound { count ≤ 5 }
     requires count_in_bounds { 10 * count ≤ length bytes.now }
     ensures { let numbers = numbers_in (widths_of_pairs count) bytes.now in MatchOption result (numbers ≡ None) (λ pairs. numbers ≡ Some (pairs_from (source_in pairs) (key_in pairs) 0 count)) }
 {
-    let mut pairs = [Pair { source: 0, key: 0 }; 5];
+    let mut pairs = [Pair::NONE; 5];
     let mut rest = bytes;
     for pair in pairs[..count].iter_mut() {
         let [source, key] = lines::read_columns(rest, &PAIR)?;
@@ -109,7 +112,8 @@ fn read_rest(line: &[u8], count: usize) -> Option<[Pair; 5]>
     read_pairs(&line[FIXED_BYTES..], count)
 }
 
-// Puts how many producers a consumer names into the registration, and its pairs by priority.
+// Puts how many producers a consumer names into the registration, and its pairs by priority: by their places, since a chain over both arrays would first
+// cut each of them from the consumer's first place on, and pair up three iterators.
 fn put_pairs(registration: &mut Registration, consumer: usize, pairs: &[Pair])
     requires consumer_bound { (consumer < 64) × (length pairs.now ≤ 5) }
     requires by_index { (k : ℕ) → k < length pairs.now → (source_in pairs.now k < 256) × (key_in pairs.now k < 65536) }

@@ -1,7 +1,8 @@
 // Reads a registration from its text.
 #![tactic(auto)]
 
-ghost use Rattle.std.specs.Prelude.{◌≡◌, ◌+◌, ◌≤◌};
+ghost use Rattle.std.specs.Prelude.{◌≡◌, ◌≤◌};
+ghost use Rattle.registration.specs.Rules.{points};
 ghost use Rattle.registration_text.specs.Reader.{read_text, verdict_of_all};
 
 use answers::Refusal;
@@ -12,7 +13,7 @@ mod letters;
 // Judges what was read, and the text that is left after it, by the rules that concern the whole.
 #[tactic(auto, using(answers::proofs::Refusals::refusals), unfolding(registration_text::specs::Reader::verdict_of_all))]
 fn judge(registration: &Registration, rest: &[u8]) -> Result<(), Refusal>
-    requires { registration.now.producers + registration.now.consumers ≤ 64 }
+    requires { points registration.now ≤ 64 }
     ensures { result ≡ verdict_of_all registration.now rest.now }
 {
     if !rest.is_empty() {

@@ -2,11 +2,10 @@
 use Prim.Native.Nat.{◌+◌, ◌≤◌}
 use mathlib.Core.Path.{◌≡◌, sym, ◌∙◌}
 use native.Mathlib.Omega.{arith}
-use Rattle.std.proofs.lemmas.Result.{err_from_is_err_and}
 use Rattle.registration_text.specs.Reader.{read_g}
 use Rattle.registration_text.proofs.Going.{going}
 use Rattle.registration_reader.proofs.Stages.{reading_ends, reading_stops, reading_goes}
-use Rattle.registration_reader.proofs.Whole.{group_stops, group_goes, group_within, stops_first, stops_second, stops_third, stops_last, goes_on}
+use Rattle.registration_reader.proofs.Whole.{exits, group_stops, group_goes, group_within, stops_first, stops_second, stops_third, stops_last, goes_on}
 use Rattle.registration_reader.proofs.read.Goals as goal
 use Rattle.registration_reader.proofs.read.Goals.{In_ok-registration}
 
@@ -20,8 +19,7 @@ begun c =
 
 pub returns-in_err-registration : goal.returns-in_err-registration
 returns-in_err-registration c =
-    let p = err_from_is_err_and c.from_residual.result c.from_residual.ensures.1 in
-    rw (p.1, p.2)
+    exits _ _ _ c.from_residual.ensures.1
     (stops_first c.args.text.now _ (group_stops c.args.text.now _ (rw c.split_line.ensures.line at (sym c.read_group.ensures ∙ c.in_err-registration.was))))
 
 pub read_producer-requires : goal.read_producer-requires
@@ -29,9 +27,8 @@ read_producer-requires c = omega (arith, within (goal.at.read_producer-requires 
 
 pub returns-in_err-read_producer : goal.returns-in_err-read_producer
 returns-in_err-read_producer c =
-    let p = err_from_is_err_and c.from_residual-in_err-read_producer.result c.from_residual-in_err-read_producer.ensures.1 in
     let e = rw c.split_line-in-loop-producer.ensures.line at (sym c.read_producer.ensures.verdict ∙ c.in_err-read_producer.was) in
-    rw (p.1, p.2)
+    exits _ _ _ c.from_residual-in_err-read_producer.ensures.1
     (stops_second c.args.text.now _ _ (begun (goal.at.returns-in_err-read_producer c).In_ok-registration) _
     (reading_stops c.loop-producer.invariant c.loop-producer-test.true _ e))
 
@@ -47,9 +44,8 @@ read_consumer-requires c = omega (arith, within (goal.at.read_consumer-requires 
 
 pub returns-in_err-read_consumer : goal.returns-in_err-read_consumer
 returns-in_err-read_consumer c =
-    let p = err_from_is_err_and c.from_residual-in_err-read_consumer.result c.from_residual-in_err-read_consumer.ensures.1 in
     let e = rw c.split_line-in-loop-consumer.ensures.line at (sym c.read_consumer.ensures.verdict ∙ c.in_err-read_consumer.was) in
-    rw (p.1, p.2)
+    exits _ _ _ c.from_residual-in_err-read_consumer.ensures.1
     (stops_third c.args.text.now _ _ (begun (goal.at.returns-in_err-read_consumer c).In_ok-registration) _ _
     (reading_ends c.loop-producer.invariant c.loop-producer-test.false) _
     (reading_stops c.loop-consumer.invariant c.loop-consumer-test.true _ e))
@@ -66,8 +62,7 @@ judge-requires c = omega (arith, within (goal.at.judge-requires c).In_ok-registr
 
 pub returns-in_err-judge : goal.returns-in_err-judge
 returns-in_err-judge c =
-    let p = err_from_is_err_and c.from_residual-in_err-judge.result c.from_residual-in_err-judge.ensures.1 in
-    rw (p.1, p.2)
+    exits _ _ _ c.from_residual-in_err-judge.ensures.1
     (stops_last c.args.text.now _ _ (begun (goal.at.returns-in_err-judge c).In_ok-registration) _ _
     (reading_ends c.loop-producer.invariant c.loop-producer-test.false) _ _
     (reading_ends c.loop-consumer.invariant c.loop-consumer-test.false) _ (sym c.judge.ensures ∙ c.in_err-judge.was))
