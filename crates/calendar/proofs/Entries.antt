@@ -7,13 +7,15 @@ use native.Mathlib.Numerals.{add-one}
 use borrow.Author.Tests.{eqb-true, eqb-false, ltb-true}
 use lib.Dec.{eqb, ltb}
 use lib.ListN.{length}
+use Rattle.std.specs.Prelude.{Option, Some, None, is_some}
+use Rattle.std.specs.Option.{unwrap_or}
 use Rattle.lists.specs.Below.{every}
 use Rattle.lists.proofs.Cases.{by_test}
 use Rattle.lists.proofs.Below.{and_left, and_right, every_at}
 use Rattle.calendar.specs.Civil.{year_length, month_length, days_before_year, days_before_month}
 use Rattle.calendar.specs.Dates.{last_day, year_of}
 use Rattle.calendar.specs.Quarters.{last_sunday}
-use Rattle.calendar.specs.Changeovers.{changeover_count, changeovers, changeover_day, changeover_year, changeover_month, by_last_sundays}
+use Rattle.calendar.specs.Changeovers.{changeover_count, changeovers, changeover_day, changeover_at, changeover_year, changeover_month, by_last_sundays}
 use Rattle.calendar.specs.Laws.{EntriesApart}
 use Rattle.calendar.proofs.Places.{in_year}
 
@@ -30,6 +32,12 @@ unfolding by_last_sundays
 entry_is place h =
     let all = and_right (eqb (length changeovers) changeover_count) _ by_rule in
     eqb-true _ _ (every_at (λ k. eqb (changeover_day k) (last_sunday (changeover_year k) (changeover_month k))) changeover_count place all h)
+
+-- what is there exactly at the table's places, and is the entry there, is the entry as a caller gets it
+pub given : (found : Option ℕ) (place : ℕ) → is_some found ≡ ltb place changeover_count → unwrap_or found 0 ≡ changeover_day place → found ≡ changeover_at place
+unfolding changeover_at
+given None place some day = rw (← some)
+given (Some x) place some day = rw (← some, ← day)
 
 -- entries that follow one another, by one computed test
 next_apart : every (λ place. ltb (changeover_day place + 28) (changeover_day (place + 1))) 151 ≡ true

@@ -9,15 +9,15 @@ use Rattle.columns.specs.Column.{column_of}
 use Rattle.columns.proofs.Laws.{length_column, number_read_back}
 use Rattle.calendar.specs.Changeovers.{changeover_day}
 use Rattle.calendar.proofs.Laws.{entries_are_days}
-use Rattle.changeovers.specs.Text.{changeover_line}
+use Rattle.changeovers.specs.Text.{line_of}
 use Rattle.changeovers.specs.Laws.{LinesReadBack}
 use Rattle.changeovers.proofs.Lengths.{length_line}
 
 pub lines_read_back : LinesReadBack
-unfolding changeover_line
+unfolding line_of
 lines_read_back place h =
     let day = changeover_day place in
     let column = column_of false 6 day in
     let long : length column ≡ 6 = length_column false 6 day in
     let read = number_read_back 6 day (omega arith) (omega arith) (omega (arith, entries_are_days place h)) in
-    (length_line place, rw (take_at column (10 ∷ []) 6 long) read, get_or_at column 10 [] 0 6 long)
+    (length_line day, rw (take_at column (10 ∷ []) 6 long) read, get_or_at column 10 [] 0 6 long)

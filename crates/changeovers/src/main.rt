@@ -1,11 +1,10 @@
 // Prints the table of changeover days to standard output, one number to a line, right-justified in 6.
 #![tactic(auto)]
 
-ghost use Rattle.std.specs.Prelude.{◌≡◌, ◌+◌, ◌≤◌, ◌<◌, length, OnOk};
+ghost use Rattle.std.specs.Prelude.{◌≡◌, length, OnOk};
 ghost use Rattle.std.specs.Io.KnownBytes.{Appends};
-ghost use Rattle.lists.specs.Pages.{Added};
-ghost use Rattle.calendar.specs.Changeovers.{changeover_count};
-ghost use Rattle.changeovers.specs.Text.{line_bytes, changeover_line, text_bytes, changeover_text};
+ghost use Rattle.lists.specs.Pages.{Room, Added};
+ghost use Rattle.changeovers.specs.Text.{line_bytes, line_of, text_bytes, changeover_text};
 
 use lists::Page;
 use std::io;
@@ -17,13 +16,13 @@ const WIDTH: usize = 6;
 // How many bytes the lines of all entries have: the column's and LF for each.
 const TEXT_BYTES: usize = 1064;
 
-// Puts the line of the entry at a place of the table on a page.
+// Puts the line of an entry on a page: in `columns`' column and not by a `Display`, since the definition of a line is that column, and its law reads it back.
 #[tactic(auto, using(columns::proofs::Laws::length_column))]
-fn put_line(page: &mut Page<u8>, place: usize)
-    requires { (place < changeover_count) × (page.old.end + line_bytes ≤ length page.old.space.now) }
-    ensures { Added (changeover_line place) page.old page.new }
+fn put_line(page: &mut Page<u8>, day: u64)
+    requires { Room line_bytes page.old }
+    ensures { Added (line_of day) page.old page.new }
 {
-    columns::put_number(page, WIDTH, calendar::changeover_day(place));
+    columns::put_number(page, WIDTH, day);
     page.put(&[lines::LINE_FEED]);
 }
 
@@ -33,8 +32,8 @@ fn put_lines(out: &mut [u8])
     ensures { out.new ≡ changeover_text }
 {
     let mut page = Page { space: out, end: 0 };
-    for place in 0..calendar::CHANGEOVERS.len() {
-        put_line(&mut page, place);
+    for day in &calendar::CHANGEOVERS {
+        put_line(&mut page, u64::from(*day));
     }
 }
 

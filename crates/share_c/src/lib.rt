@@ -202,9 +202,10 @@ pub extern "C" fn share_date(day: u64) -> u64
 }
 
 // How many quarter hours a day has, 0 where the calendar has no such day.
+#[tactic(auto, unfolding(calendar::specs::Quarters::quarters_of))]
 #[unsafe(no_mangle)]
 pub extern "C" fn share_quarters(day: u64) -> u64
     ensures { result ≡ quarters_of day }
 {
-    calendar::quarters(day)
+    calendar::quarters(day).unwrap_or(0)
 }

@@ -40,9 +40,9 @@ module _ (day minutes : ℕ) where
   none_after n =
       sym (is_none (quarters_of day) minutes (λ quarter h l same. omega (arith, (starts_are_times day quarter (among_exists day quarter h l)).0)))
 
-  pub none_outside : quarters_of day ≡ 0 → None ≡ first_at day minutes
+  pub none_outside : last_day < day → None ≡ first_at day minutes
   unfolding first_at
-  none_outside n = sym (is_none (quarters_of day) minutes (λ quarter h l same. omega arith))
+  none_outside n = sym (is_none (quarters_of day) minutes (λ quarter h l same. omega (arith, quarters_none day n)))
 
 -- at a time at which a quarter may start, by the kind of the day
 module _ (minutes : ℕ) (whole : minutes % 15 ≡ 0) where
@@ -99,10 +99,7 @@ pub first_by : (day minutes quarters : ℕ) → quarters_of day ≡ quarters →
 unfolding first_at
 first_by day minutes quarters e = ap (λ (n : ℕ). first_in n minutes) (sym e)
 
--- on a day that has quarters, and neither 92 nor 100
-pub ordinary_at : (day minutes : ℕ) → (quarters_of day ≡ 0 → ⊥) → (quarters_of day ≡ 92 → ⊥) → (quarters_of day ≡ 100 → ⊥) → minutes % 15 ≡ 0 → minutes < 1440
+-- on a day of the calendar that has neither 92 quarters nor 100
+pub ordinary_at : (day minutes : ℕ) → day ≤ last_day → (quarters_of day ≡ 92 → ⊥) → (quarters_of day ≡ 100 → ⊥) → minutes % 15 ≡ 0 → minutes < 1440
     → first_at day minutes ≡ Some (minutes / 15 + 1)
-ordinary_at day minutes some short long whole h =
-    by_test (leb day last_day)
-    (λ t. sym (ordinary_first minutes whole h ∙ first_by day minutes 96 (other_days day (leb-true day last_day t) short long)))
-    (λ f. absurd (some (quarters_none day (leb-false day last_day f))))
+ordinary_at day minutes within short long whole h = sym (ordinary_first minutes whole h ∙ first_by day minutes 96 (other_days day within short long))

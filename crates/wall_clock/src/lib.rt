@@ -1,7 +1,7 @@
 // The wall-clock starts of a day's quarters: what the clock shows when a quarter begins, and which quarter begins when it shows a time.
 #![tactic(auto)]
 
-ghost use Rattle.std.specs.Prelude.{◌≡◌, true, ◌%◌, ◌≤◌, ◌<◌};
+ghost use Rattle.std.specs.Prelude.{◌≡◌, true, ◌+◌, ◌/◌, ◌%◌, ◌≤◌, ◌<◌};
 ghost use Rattle.calendar.specs.Quarters.{quarter_exists};
 ghost use Rattle.wall_clock.specs.Starts.{short_start, long_start, quarter_start, first_in, first_at};
 
@@ -70,20 +70,27 @@ fn long_start(passed: u64) -> Start
 }
 
 // The wall-clock start of a quarter that the day has.
-#[tactic(auto, using(calendar::proofs::Laws::exists_quarter), unfolding(crate::specs::Starts::start_after))]
+#[tactic(auto, using(calendar::proofs::Laws::exists_quarter, calendar::proofs::Laws::exists_day), unfolding(crate::specs::Starts::start_after))]
 pub fn quarter_start(day: u64, quarter: u64) -> Start
     requires { quarter_exists day quarter ≡ true }
     ensures { result ≡ quarter_start day quarter }
 {
     let passed = QUARTER_MINUTES * (quarter - 1);
     match calendar::quarters(day) {
-        SHORT_DAY => short_start(passed),
-        LONG_DAY => long_start(passed),
+        Some(SHORT_DAY) => short_start(passed),
+        Some(LONG_DAY) => long_start(passed),
         _ => Start {
             minutes: passed,
             letter: None,
         },
     }
+}
+
+// The quarter that starts at a time on a day of 96.
+fn ordinary_quarter(minutes: u64) -> u64
+    ensures { result ≡ minutes / 15 + 1 }
+{
+    minutes / QUARTER_MINUTES + 1
 }
 
 // The first quarter on the day with 92 quarters at a time at which one may start: none in the hour that is missing.
@@ -92,7 +99,7 @@ fn short_first(minutes: u64) -> Option<u64>
     requires { (minutes % 15 ≡ 0) × (minutes < 1440) }
     ensures { result ≡ first_in 92 minutes }
 {
-    let ordinary = minutes / QUARTER_MINUTES + 1;
+    let ordinary = ordinary_quarter(minutes);
     match minutes {
         0..HOUR_BEGINS => Some(ordinary),
         HOUR_BEGINS..HOUR_ENDS => None,
@@ -106,7 +113,7 @@ fn long_first(minutes: u64) -> u64
     requires { (minutes % 15 ≡ 0) × (minutes < 1440) }
     ensures { Some result ≡ first_in 100 minutes }
 {
-    let ordinary = minutes / QUARTER_MINUTES + 1;
+    let ordinary = ordinary_quarter(minutes);
     if minutes < HOUR_ENDS {
         ordinary
     } else {
@@ -123,10 +130,9 @@ pub fn first_at(day: u64, minutes: u64) -> Option<u64>
     if minutes % QUARTER_MINUTES != 0 || minutes >= DAY_MINUTES {
         return None;
     }
-    match calendar::quarters(day) {
-        0 => None,
+    match calendar::quarters(day)? {
         SHORT_DAY => short_first(minutes),
         LONG_DAY => Some(long_first(minutes)),
-        _ => Some(minutes / QUARTER_MINUTES + 1),
+        _ => Some(ordinary_quarter(minutes)),
     }
 }

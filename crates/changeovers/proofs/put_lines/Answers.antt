@@ -3,18 +3,20 @@ use native.Mathlib.Omega.{arith}
 use borrow.Author.Rules.{rules}
 use Rattle.lists.proofs.PlaceLaws.{put_whole}
 use Rattle.lists.proofs.Adding.{lent_put, no_piece, piece_fits, piece_more, all_pieces}
-use Rattle.calendar.specs.Changeovers.{changeover_count}
+use Rattle.calendar.specs.Changeovers.{changeover_count, changeovers}
+use Rattle.changeovers.specs.Text.{changeover_line}
 use Rattle.changeovers.proofs.Lengths.{length_line, length_text}
 use Rattle.changeovers.proofs.put_lines.Goals as goal
 
-pub loop-place-init : goal.loop-place-init
-loop-place-init c = no_piece _ (omega arith)
+pub loop-day-init : goal.loop-day-init
+loop-day-init c = no_piece changeover_line (omega arith)
 
 pub put_line-requires : goal.put_line-requires
-put_line-requires c = (search rules, rw length_line at (piece_fits _ c.loop-place.invariant changeover_count (omega arith) (omega (arith, length_text))))
+put_line-requires c = rw length_line at (piece_fits changeover_line c.loop-day.invariant changeover_count (omega arith) (omega (arith, length_text)))
 
-pub loop-place-preserved : goal.loop-place-preserved
-loop-place-preserved c = piece_more _ c.loop-place.invariant c.put_line.ensures
+pub loop-day-preserved : goal.loop-day-preserved
+unfolding changeovers
+loop-day-preserved c = piece_more changeover_line c.loop-day.invariant (rw c.from.ensures at c.put_line.ensures)
 
 pub returns : goal.returns
-returns c = put_whole (omega (arith, length_text, c.requires)) (lent_put (all_pieces _ c.loop-place.invariant (omega arith) (omega arith)) (search rules))
+returns c = put_whole (omega (arith, length_text, c.requires)) (lent_put (all_pieces changeover_line c.loop-day.invariant (omega arith) (omega arith)) (search rules))

@@ -4,5 +4,5 @@ use Rattle.lists.specs.Tables.{joined}
 use Rattle.changeovers.specs.Text.{changeover_line}
 use Rattle.changeovers.proofs.put_lines.Given as goal
 
-abbrev pub invariant-loop-place : goal.invariant-loop-place
-invariant-loop-place l = Added (joined changeover_line l.place) l.initial.page l.page
+abbrev pub invariant-loop-day : goal.invariant-loop-day
+invariant-loop-day l = Added (joined changeover_line l.day-index) l.initial.page l.page
