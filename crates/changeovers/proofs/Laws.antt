@@ -9,12 +9,12 @@ use Rattle.columns.specs.Column.{column_of}
 use Rattle.columns.proofs.Laws.{length_column, number_read_back}
 use Rattle.calendar.specs.Changeovers.{changeover_day}
 use Rattle.calendar.proofs.Laws.{entries_are_days}
-use Rattle.changeovers.specs.Text.{line_of}
+use Rattle.changeovers.specs.Text.{day_line}
 use Rattle.changeovers.specs.Laws.{LinesReadBack}
 use Rattle.changeovers.proofs.Lengths.{length_line}
 
 pub lines_read_back : LinesReadBack
-unfolding line_of
+unfolding day_line
 lines_read_back place h =
     let day = changeover_day place in
     let column = column_of false 6 day in

@@ -5,10 +5,10 @@ use lib.ListN.{length, length-append}
 use Rattle.lists.proofs.TableLaws.{length_even}
 use Rattle.columns.proofs.Laws.{length_column}
 use Rattle.calendar.specs.Changeovers.{changeover_count, changeover_day}
-use Rattle.changeovers.specs.Text.{line_of, changeover_line, line_bytes, changeover_text, text_bytes}
+use Rattle.changeovers.specs.Text.{day_line, changeover_line, line_bytes, changeover_text, text_bytes}
 
-pub length_line : (day : ℕ) → length (line_of day) ≡ line_bytes
-unfolding line_of
+pub length_line : (day : ℕ) → length (day_line day) ≡ line_bytes
+unfolding day_line
 length_line day = simp (length-append, length_column)
 
 pub length_text : length changeover_text ≡ text_bytes

@@ -5,12 +5,12 @@ use Rattle.columns.specs.Column.{column_of}
 use Rattle.calendar.specs.Changeovers.{changeover_count, changeover_day}
 
 -- the line of a day: right-justified in 6, and LF
-unfoldable pub line_of : ℕ → List ℕ
-line_of day = column_of false 6 day ++ (10 ∷ [])
+unfoldable pub day_line : ℕ → List ℕ
+day_line day = column_of false 6 day ++ (10 ∷ [])
 
 -- the line of a place: that of its entry
 abbrev pub changeover_line : ℕ → List ℕ
-changeover_line place = line_of (changeover_day place)
+changeover_line place = day_line (changeover_day place)
 
 -- how many bytes a line has
 abbrev pub line_bytes : ℕ

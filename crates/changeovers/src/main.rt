@@ -4,7 +4,7 @@
 ghost use Rattle.std.specs.Prelude.{◌≡◌, length, OnOk};
 ghost use Rattle.std.specs.Io.KnownBytes.{Appends};
 ghost use Rattle.lists.specs.Pages.{Room, Added};
-ghost use Rattle.changeovers.specs.Text.{line_bytes, line_of, text_bytes, changeover_text};
+ghost use Rattle.changeovers.specs.Text.{line_bytes, day_line, text_bytes, changeover_text};
 
 use lists::Page;
 use std::io;
@@ -20,7 +20,7 @@ const TEXT_BYTES: usize = 1064;
 #[tactic(auto, using(columns::proofs::Laws::length_column))]
 fn put_line(page: &mut Page<u8>, day: u64)
     requires { Room line_bytes page.old }
-    ensures { Added (line_of day) page.old page.new }
+    ensures { Added (day_line day) page.old page.new }
 {
     columns::put_number(page, WIDTH, day);
     page.put(&[lines::LINE_FEED]);

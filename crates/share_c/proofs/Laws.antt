@@ -1,4 +1,5 @@
 -- The laws on what a refused call gives beside its number. Assumes nothing.
+use mathlib.Core.Path.{◌≡◌, refl}
 use Rattle.registration.specs.Damage.{empty}
 use Rattle.share_c.specs.Laws.{RefusedTextGivesZeros, RefusedWriteGivesZero, RefusedFreshGivesZeros}
 
