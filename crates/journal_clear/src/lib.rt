@@ -56,52 +56,48 @@ fn lesser(next: Option<u64>, key: u64) -> Option<u64>
 
 // The numbers stay a flat slice below: of arrays that `as_chunks_mut` lends out nothing is known of what the slice ends as.
 
-// One entry of a pass, by its number. Up to the stamp and in the window, it loses its stamp where its key was seen, and its key is seen where it was
-// not. Returns the least key beyond the window among this entry and those before, if there is one.
-fn turn(
-    numbers: &mut [u64],
-    seen: &mut [u64],
-    i: usize,
-    window: Window,
-    next: Option<u64>,
-) -> Option<u64>
-    requires { (3 * i + 3 ≤ length numbers.old) × (length seen.old ≡ 16384) × (window.points ≤ 64) }
-    ensures { Turned window.points window.lo window.stamp (entry_at numbers.old i) i numbers.old seen.old next numbers.new seen.new result }
-{
-    let place = numbers[ENTRY * i + 1];
-    let key = place % POINT_PLACES * window.points + place / POINT_PLACES;
-    if key < window.lo {
-        return next;
+impl Window {
+    // One entry of a pass, by its number. Up to the stamp and in the window, it loses its stamp where its key was seen, and its key is seen where it was
+    // not. Returns the least key beyond the window among this entry and those before, if there is one.
+    fn turn(self, numbers: &mut [u64], seen: &mut [u64], i: usize, next: Option<u64>) -> Option<u64>
+        requires { (3 * i + 3 ≤ length numbers.old) × (length seen.old ≡ 16384) × (self.points ≤ 64) }
+        ensures { Turned self.points self.lo self.stamp (entry_at numbers.old i) i numbers.old seen.old next numbers.new seen.new result }
+    {
+        let place = numbers[ENTRY * i + 1];
+        let key = place % POINT_PLACES * self.points + place / POINT_PLACES;
+        if key < self.lo {
+            return next;
+        }
+        let k = key - self.lo;
+        if k >= WINDOW {
+            return lesser(next, key);
+        }
+        if self.stamp < numbers[ENTRY * i] {
+            return next;
+        }
+        let at = k as usize;
+        if has(seen, at) {
+            numbers[ENTRY * i] = 0;
+            return next;
+        }
+        see(seen, at);
+        next
     }
-    let k = key - window.lo;
-    if k >= WINDOW {
-        return lesser(next, key);
-    }
-    if window.stamp < numbers[ENTRY * i] {
-        return next;
-    }
-    let at = k as usize;
-    if has(seen, at) {
-        numbers[ENTRY * i] = 0;
-        return next;
-    }
-    see(seen, at);
-    next
-}
 
-// Marks the superseded entries whose keys are in the window: of a place, all up to the stamp but the first one met from the last entry back. Returns
-// the least key beyond the window, if there is one. A loop and not a fold: of a closure that changes the journal and the table, which it captures, a
-// proof knows nothing.
-fn pass(numbers: &mut [u64], window: Window) -> Option<u64>
-    requires { window.points ≤ 64 }
-    ensures { Passed window.points window.lo window.stamp (length numbers.old / 3) numbers.old numbers.new result }
-{
-    let mut seen = [0; WORDS];
-    let mut next = None;
-    for i in (0..numbers.len() / ENTRY).rev() {
-        next = turn(numbers, &mut seen, i, window, next);
+    // Marks the superseded entries whose keys are in the window: of a place, all up to the stamp but the first one met from the last entry back. Returns
+    // the least key beyond the window, if there is one. A loop and not a fold: of a closure that changes the journal and the table, which it captures, a
+    // proof knows nothing.
+    fn pass(self, numbers: &mut [u64]) -> Option<u64>
+        requires { self.points ≤ 64 }
+        ensures { Passed self.points self.lo self.stamp (length numbers.old / 3) numbers.old numbers.new result }
+    {
+        let mut seen = [0; WORDS];
+        let mut next = None;
+        for i in (0..numbers.len() / ENTRY).rev() {
+            next = self.turn(numbers, &mut seen, i, next);
+        }
+        next
     }
-    next
 }
 
 // Marks every superseded entry: a pass for the window from 0 on, then one for each window that has an entry's key.
@@ -111,8 +107,7 @@ fn mark(numbers: &mut [u64], points: u64, stamp: u64)
 {
     let mut next = Some(0);
     while let Some(lo) = next {
-        let window = Window { points, stamp, lo };
-        next = pass(numbers, window);
+        next = Window { points, stamp, lo }.pass(numbers);
     }
 }
 
