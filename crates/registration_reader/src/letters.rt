@@ -32,11 +32,12 @@ pub fn read_group(line: &[u8]) -> Result<Registration, Refusal>
     if iteration > ITERATION_MOST {
         return Err(Refusal::StatusOrIterationAbove);
     }
-    let mut registration = Registration::empty();
-    registration.producers = producers as usize;
-    registration.consumers = consumers as usize;
-    registration.iteration = iteration as u8;
-    Ok(registration)
+    Ok(Registration {
+        producers: producers as usize,
+        consumers: consumers as usize,
+        iteration: iteration as u8,
+        ..Registration::empty()
+    })
 }
 
 // Puts code and status of a point into the registration.

@@ -16,15 +16,17 @@ pub const PRODUCER: Format<2> = Format {
     widths: [19, 2],
 };
 
-// The letter of a consumer's line, and the widths of its fixed part: code, status, count.
+// The letter of a consumer's line.
 pub const CONSUMER: u8 = b'O';
 
+// The widths of its fixed part: code, status, count.
 pub const FIXED: [usize; 3] = [19, 2, 2];
 
 // The widths of each pair after the fixed part: a producer's number and the key.
 pub const PAIR: [usize; 2] = [4, 6];
 
-// The bytes of a consumer's line up to its pairs, and of a pair.
+// The bytes of a consumer's line up to its pairs.
 pub const FIXED_BYTES: usize = 24;
 
+// The bytes of a pair.
 pub const PAIR_BYTES: usize = 10;
