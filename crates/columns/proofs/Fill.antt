@@ -2,12 +2,11 @@
 use Prim.Native.Nat.{ℕ, zero, suc, ◌+◌, ◌-◌, ◌/◌, ◌%◌, ◌≤◌, ◌<◌}
 use mathlib.Core.Path.{◌≡◌, refl}
 use mathlib.Core.Bool.{Bool, not, ◌&&◌}
-use mathlib.Core.List.{List, [], ◌∷◌, ◌++◌, append_assoc, append-nil}
+use mathlib.Core.List.{List, [], ◌∷◌, ◌++◌, append_assoc}
 use native.Mathlib.Omega.{arith}
 use native.Mathlib.Numerals.{add-one, sub-one}
 use lib.Dec.{eqb}
 use lib.ListN.{length, drop, set, length-append}
-use lib.Seq.{drop-length}
 use Rattle.std.proofs.lemmas.List.{drop-set}
 use Rattle.columns.specs.Column.{byte_before, lead_of, column_of}
 
@@ -23,9 +22,6 @@ length_column minus (suc w) n = rw (length-append, length_lead minus w (n / 10))
 
 -- the bytes before the last one, filled from their right end: what is to be written before i, and what stands from i on
 module _ (out : List ℕ) (minus : Bool) where
-  pub fill_begin : (n : ℕ) → lead_of minus (length out) n ≡ lead_of minus (length out) n ++ drop (length out) out
-  fill_begin n = rw (drop-length, append-nil)
-
   pub fill_step : (i n : ℕ) → 0 < i → i ≤ length out
       → lead_of minus i n ++ drop i out ≡ lead_of (minus && not (eqb n 0)) (i - 1) (n / 10) ++ drop (i - 1) (set out (i - 1) (byte_before minus n))
   unfolding lead_of

@@ -1,7 +1,7 @@
 // The lines of a text, and lines with a letter and numbers in columns, read and written.
 #![tactic(auto)]
 
-ghost use Rattle.std.specs.Prelude.{◌≡◌, ◌+◌, ◌≤◌, ◌<◌, ◌^◌, eqb, length, position, sum};
+ghost use Rattle.std.specs.Prelude.{◌≡◌, ◌+◌, ◌≤◌, ◌<◌, ◌^◌, eqb, length, position};
 ghost use Rattle.columns.specs.Fields.{total, columns_of, numbers_in};
 ghost use Rattle.lists.specs.Pages.{Room, Added};
 ghost use Rattle.lines.specs.Line.{first_line, after_line};
@@ -68,9 +68,10 @@ pub fn is_framed(line: &[u8], letter: u8, size: usize) -> bool
 }
 
 // How many bytes columns of these widths take.
+#[tactic(auto, using(columns::proofs::Laws::total_sum))]
 fn total(widths: &[usize]) -> usize
-    requires { sum widths.now < 2 ^ 64 }
-    ensures { result ≡ sum widths.now }
+    requires { total widths.now < 2 ^ 64 }
+    ensures { result ≡ total widths.now }
 {
     widths.iter().sum()
 }

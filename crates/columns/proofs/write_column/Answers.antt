@@ -2,14 +2,11 @@
 use mathlib.Core.Path.{◌∙◌}
 use native.Mathlib.Omega.{arith}
 use lib.ListN.{length-set}
-use Rattle.columns.proofs.Fill.{fill_begin, fill_step, fill_end, fill_empty}
+use Rattle.columns.proofs.Fill.{fill_step, fill_end, fill_empty}
 use Rattle.columns.proofs.write_column.Goals as goal
 
 pub returns-in_default : goal.returns-in_default
 returns-in_default c = fill_empty _ _ _ c.in_default.ensures.cases
-
-pub loop-i-init : goal.loop-i-init
-loop-i-init c = fill_begin _ _ _
 
 pub loop-i-preserved : goal.loop-i-preserved
 loop-i-preserved c =
