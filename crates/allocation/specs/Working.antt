@@ -19,7 +19,7 @@ by_pair numbers consumer priority = get_or (get_or numbers consumer []) priority
 abbrev pub PairsWithin : Registration → List (List ℕ) → Type 0
 PairsWithin r shares = (consumer priority : ℕ) → consumer < r.consumers → priority < count_at r consumer → by_pair shares consumer priority ≤ magnitude_most
 
--- each consumer's array has its five places, as in every value of the type
+-- each consumer's array has its five places, as in every value of the type; the list of lists alone does not say it
 abbrev pub FivePlaces : List (List ℕ) → Type 0
 FivePlaces numbers = (consumer : ℕ) → consumer < 64 → length (get_or numbers consumer []) ≡ 5
 

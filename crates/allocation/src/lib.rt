@@ -54,6 +54,7 @@ impl Allocated {
         ensures { RoundMade registration.now self.old self.new }
     {
         let start = self.left;
+        // by number: a consumer's point, count, pairs and shares are all found by it
         for consumer in 0..registration.consumers {
             let point = registration.producers + consumer;
             let count = usize::from(registration.counts[consumer]);
