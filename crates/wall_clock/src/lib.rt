@@ -19,26 +19,31 @@ pub struct Start {
     pub letter: Option<Letter>,
 }
 
-// The minutes of a quarter and of an hour, the quarters of an hour, and the minutes that the clock shows in a day.
+// The minutes of a quarter.
 const QUARTER_MINUTES: u64 = 15;
 
+// The minutes of an hour.
 const HOUR_MINUTES: u64 = 60;
 
+// The quarters of an hour.
 const HOUR_QUARTERS: u64 = 4;
 
+// The minutes that the clock shows in a day.
 const DAY_MINUTES: u64 = 1440;
 
-// The hour that is missing on the day with 92 quarters, and comes twice on the day with 100: from 02:00 to 03:00, in minutes from midnight.
+// When the hour begins that is missing on the day with 92 quarters, and comes twice on the day with 100: 02:00, in minutes from midnight.
 const HOUR_BEGINS: u64 = 120;
 
+// When it ends: 03:00.
 const HOUR_ENDS: u64 = HOUR_BEGINS + HOUR_MINUTES;
 
 // When it has ended for the second time, by what has passed of the day.
 const SECOND_ENDS: u64 = HOUR_ENDS + HOUR_MINUTES;
 
-// How many quarters the days have on which clocks change.
+// How many quarters the day has on which clocks are put forward.
 const SHORT_DAY: u64 = 92;
 
+// How many the day has on which they are put back.
 const LONG_DAY: u64 = 100;
 
 // The start on the day with 92 quarters, when so many minutes of it have passed; no day has more than 1500.
