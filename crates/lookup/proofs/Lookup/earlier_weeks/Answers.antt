@@ -2,8 +2,8 @@
 use Rattle.std.proofs.Common.{◌-◌, ◌≡◌, [], ◌∷◌, ◌++◌, length, arith, sym, ◌∙◌}
 use Rattle.std.proofs.lemmas.List.{length_push, length-reverse}
 use Rattle.std.proofs.lemmas.Iterator.Adapters.{YieldsList-from_rev_slice}
-use Rattle.std.proofs.lemmas.Iterator.Consumers.{YieldsList-turn, YieldsList-end}
-use Rattle.lookup.proofs.Passed.{next_bounds, from_the_end}
+use Rattle.std.proofs.lemmas.Iterator.Consumers.{YieldsList-end}
+use Rattle.lookup.proofs.Passed.{next_bounds, met_back}
 use Rattle.lookup.proofs.Apart.{first_bound}
 use Rattle.lookup.proofs.Passing.{few, passing_none, passing_back, passing_over, passing_met, passing_all}
 use Rattle.lookup.proofs.Opened.{readable_in}
@@ -29,10 +29,7 @@ pass-requires c =
     let xs = a.entries.now in
     let l = c.loop-numbers in
     let most = few xs a.asked c.args.point (length xs - length l.yielded) l.weeks l.invariant in
-    let t =
-    from_the_end xs (length l.yielded) c.in-Some.numbers.now
-    (YieldsList-turn (YieldsList-from_rev_slice xs cc) l.yielded _ l.yielded_by _ _ c.in-Some.numbers c.in-Some.is c.next.ensures.steps)
-    in
+    let t = met_back xs _ (cc) l.yielded _ l.yielded_by _ _ c.in-Some.numbers c.in-Some.is c.next.ensures.steps in
     let bounds = next_bounds xs (length xs - length l.yielded - 1) (omega arith) known.right in
     (omega (arith, l.invariant.small, most), most, rw (c.from.ensures, t.1) bounds.1)
 
@@ -42,10 +39,7 @@ returns-then-weeks-eq-WEEKS c =
     let known = readable_in a in
     let xs = a.entries.now in
     let l = c.loop-numbers in
-    let t =
-    from_the_end xs (length l.yielded) c.in-Some.numbers.now
-    (YieldsList-turn (YieldsList-from_rev_slice xs cc) l.yielded _ l.yielded_by _ _ c.in-Some.numbers c.in-Some.is c.next.ensures.steps)
-    in
+    let t = met_back xs _ (cc) l.yielded _ l.yielded_by _ _ c.in-Some.numbers c.in-Some.is c.next.ensures.steps in
     let back = passing_back xs a.asked c.args.point known.right (length xs - length l.yielded) l.weeks (omega arith) l.invariant c.pass.new.self (rw (c.from.ensures, t.1) at c.pass.ensures) in
     passing_met xs a.asked c.args.point (length xs - length l.yielded - 1) c.pass.new.self back (omega (arith, c.if-weeks-eq-WEEKS.true))
 
@@ -55,10 +49,7 @@ loop-numbers-preserved-then-not-is_near c =
     let known = readable_in a in
     let xs = a.entries.now in
     let l = c.loop-numbers in
-    let t =
-    from_the_end xs (length l.yielded) c.in-Some.numbers.now
-    (YieldsList-turn (YieldsList-from_rev_slice xs cc) l.yielded _ l.yielded_by _ _ c.in-Some.numbers c.in-Some.is c.next.ensures.steps)
-    in
+    let t = met_back xs _ (cc) l.yielded _ l.yielded_by _ _ c.in-Some.numbers c.in-Some.is c.next.ensures.steps in
     let fewer : length xs - length (l.yielded ++ (c.in-Some.numbers ∷ [])) ≡ length xs - length l.yielded - 1 = omega (arith, length_push l.yielded c.in-Some.numbers) in
     let far = rw (c.first_near-near.ensures, t.1) at (sym c.is_near.ensures ∙ c.if-not-is_near.true) in
     rw fewer (passing_over xs a.asked c.args.point known.right (length xs - length l.yielded) l.weeks (omega arith) l.invariant far)
@@ -69,10 +60,7 @@ loop-numbers-preserved c =
     let known = readable_in a in
     let xs = a.entries.now in
     let l = c.loop-numbers in
-    let t =
-    from_the_end xs (length l.yielded) c.in-Some.numbers.now
-    (YieldsList-turn (YieldsList-from_rev_slice xs cc) l.yielded _ l.yielded_by _ _ c.in-Some.numbers c.in-Some.is c.next.ensures.steps)
-    in
+    let t = met_back xs _ (cc) l.yielded _ l.yielded_by _ _ c.in-Some.numbers c.in-Some.is c.next.ensures.steps in
     let fewer : length xs - length (l.yielded ++ (c.in-Some.numbers ∷ [])) ≡ length xs - length l.yielded - 1 = omega (arith, length_push l.yielded c.in-Some.numbers) in
     rw fewer (passing_back xs a.asked c.args.point known.right (length xs - length l.yielded) l.weeks (omega arith) l.invariant c.pass.new.self (rw (c.from.ensures, t.1) at c.pass.ensures))
 
