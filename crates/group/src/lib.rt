@@ -30,7 +30,7 @@ pub const DAYS_BEFORE: u64 = 28;
 
 // What is kept of a group beside its registration and its journal: kept stamp P, kept day K, and how many entries the journal has.
 #[repr(C)]
-#[derive(Clone, Copy)]
+#[derive(Clone, Copy, Default)]
 pub struct Numbers {
     pub kept_stamp: u64,
     pub kept_day: u64,

@@ -14,15 +14,15 @@ use values::Measurement;
 
 // What changes of the record: the last stamp given, which is not the group's own, and the group's numbers. It stands so in the C interface.
 #[repr(C)]
-#[derive(Clone, Copy)]
+#[derive(Clone, Copy, Default)]
 pub struct State {
     pub last: u64,
     pub numbers: Numbers,
 }
 
-// The record of a service.
+// The record of a service. Its journal is not in it: calls take the two apart, since the C interface lends them so.
 #[repr(C)]
-#[derive(Clone, Copy)]
+#[derive(Clone, Copy, Default)]
 pub struct Service {
     pub registration: Registration,
     pub state: State,
@@ -39,17 +39,7 @@ impl Service {
     pub fn empty() -> Service
         ensures { result ≡ zero_service }
     {
-        Service {
-            registration: Registration::empty(),
-            state: State {
-                last: 0,
-                numbers: Numbers {
-                    kept_stamp: 0,
-                    kept_day: 0,
-                    entries: 0,
-                },
-            },
-        }
+        Service::default()
     }
 
     // A service made from a registration alone: no entries, and all stamps and days 0. A damaged registration is refused.
