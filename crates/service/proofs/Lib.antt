@@ -10,3 +10,4 @@ pub mod Evaluating
 pub mod Others
 pub mod Cases
 pub mod Answered
+pub mod Zeros
