@@ -1,5 +1,4 @@
 -- A record each of whose numbers is 0. Assumes nothing.
-use Prim.Native.Nat.{ℕ}
 use mathlib.Core.Path.{◌≡◌}
 use Rattle.registration.specs.Damage.{empty}
 use Rattle.service.specs.declared.Service.{Service}
