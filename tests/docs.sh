@@ -74,8 +74,8 @@ reads() {
 calls=$(listed "The calls")
 texts=$(listed "Text and program")
 changeovers=$(listed "Changeover days")
-reads 950 1050 "$calls" "$calls"
-reads 550 650 "$texts" "$calls
+reads 980 1080 "$calls" "$calls"
+reads 600 700 "$texts" "$calls
 $texts"
 reads 50 70 "$changeovers" "$calls
 $texts

@@ -15,7 +15,7 @@ use Rattle.lists.proofs.Cases.{by_test}
 use Rattle.journal.proofs.Stored.{length_entries}
 use Rattle.group.specs.declared.Looked.{Looked}
 use Rattle.group.specs.declared.Looked.TheVariants.{Repeat, New}
-use Rattle.group.specs.Working.{soundness, looked_of}
+use Rattle.group.specs.Working.{damage_verdict, looked_of}
 use Rattle.group.specs.declared.Numbers.{Numbers}
 use Rattle.group.specs.Group.{Group, readings_for, entry_of}
 use Rattle.group.specs.Held.{group_in}
@@ -32,13 +32,13 @@ pub last_quarter : (day quarter : ℕ) → quarter_exists day quarter ≡ true �
 last_quarter day quarter e = (exists_quarter day quarter e).1
 
 -- where a group passes its test its entries fit into the journal and are right, and its last stamp is one
-pub fits : (last : ℕ) (r : Registration) (numbers : Numbers) (j : List ℕ) → Ok tt ≡ soundness last (group_in r numbers j) → 3 * numbers.entries ≤ length j
+pub fits : (last : ℕ) (r : Registration) (numbers : Numbers) (j : List ℕ) → Ok tt ≡ damage_verdict last (group_in r numbers j) → 3 * numbers.entries ≤ length j
 fits last r numbers j e = fits_of r numbers j (sound_of last (group_in r numbers j) e)
 
-pub rising : (last : ℕ) (r : Registration) (numbers : Numbers) (j : List ℕ) → Ok tt ≡ soundness last (group_in r numbers j) → Right (entries numbers.entries j)
+pub rising : (last : ℕ) (r : Registration) (numbers : Numbers) (j : List ℕ) → Ok tt ≡ damage_verdict last (group_in r numbers j) → Right (entries numbers.entries j)
 rising last r numbers j e = let s = sound_of last (group_in r numbers j) e in right_of _ _ (few_points _ _ s) s
 
-pub last_most : (last : ℕ) (G : Group) → Ok tt ≡ soundness last G → last ≤ stamp_most
+pub last_most : (last : ℕ) (G : Group) → Ok tt ≡ damage_verdict last G → last ≤ stamp_most
 last_most last G e = (sound_of last G e).last_stamp
 
 pub ruleset looking = (length_table, length_entries, few_of, exists_day, first_quarter, last_quarter, fits, rising, last_most)

@@ -17,24 +17,24 @@ use Rattle.lists.proofs.Cases.{by_test}
 use Rattle.registration.specs.Rules.{points}
 use Rattle.group.specs.Group.{Group}
 use Rattle.group.specs.Refusals.{damaged}
-use Rattle.group.specs.Working.{soundness}
+use Rattle.group.specs.Working.{damage_verdict}
 use Rattle.group.proofs.Sound.{Sound, undamaged_sound}
 use Rattle.group.proofs.Undamaged.{few_points}
 
 -- each order of refusals begins with the test of the group
-pub sound_first : {T : Type 0} (last : ℕ) (G : Group) (m : Result T Refusal) → refuse Damaged if damaged last G else m ≡ result_and (soundness last G) m
-unfolding refuse◌if◌else◌ soundness
+pub sound_first : {T : Type 0} (last : ℕ) (G : Group) (m : Result T Refusal) → refuse Damaged if damaged last G else m ≡ result_and (damage_verdict last G) m
+unfolding refuse◌if◌else◌ damage_verdict
 sound_first last G m = by_test (damaged last G) (λ t. rw t) (λ t. rw t)
 
 -- what holds of a group that passes its test
-pub sound_of : (last : ℕ) (G : Group) → Ok tt ≡ soundness last G → Sound last G
-unfolding refuse◌if◌else◌ soundness
+pub sound_of : (last : ℕ) (G : Group) → Ok tt ≡ damage_verdict last G → Sound last G
+unfolding refuse◌if◌else◌ damage_verdict
 sound_of last G e = undamaged_sound last G (by_test (damaged last G) (λ t. cc (rw t at e)) (λ t. t))
 
-pub kept_day_most : (last : ℕ) (G : Group) → Ok tt ≡ soundness last G → G.keptday ≤ last_day
+pub kept_day_most : (last : ℕ) (G : Group) → Ok tt ≡ damage_verdict last G → G.keptday ≤ last_day
 kept_day_most last G e = (sound_of last G e).kept_day
 
-pub few_of : (last : ℕ) (G : Group) → Ok tt ≡ soundness last G → points G.registration ≤ 64
+pub few_of : (last : ℕ) (G : Group) → Ok tt ≡ damage_verdict last G → points G.registration ≤ 64
 few_of last G e = few_points last G (sound_of last G e)
 
 -- a stamp is refused where it is not within those that are kept

@@ -16,8 +16,8 @@ use Rattle.group.specs.Refusals.{damaged, repeats}
 use Rattle.group.specs.Stamps.{next_stamp}
 
 -- each call refuses a damaged group first
-unfoldable pub soundness : (last : ℕ) → Group → Verdict
-soundness last G = refuse Damaged if damaged last G else Ok tt
+unfoldable pub damage_verdict : (last : ℕ) → Group → Verdict
+damage_verdict last G = refuse Damaged if damaged last G else Ok tt
 
 -- what an accepted submission comes to: where it repeats the reading shown the entry of that, otherwise the entry that it needs, with a new stamp
 abbrev pub looked_of : (last : ℕ) → Group → (clock : ℕ) → Measurement → Looked

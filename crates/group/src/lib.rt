@@ -14,7 +14,7 @@ ghost use Rattle.values.specs.Values.{magnitude_most};
 ghost use Rattle.group.specs.Held.{held};
 ghost use Rattle.group.specs.Refusals.{damaged, full, earliest, submission_verdict, clear_verdict, evaluation_verdict};
 ghost use Rattle.group.specs.Stamps.{stamp_most};
-ghost use Rattle.group.specs.Working.{soundness, looked_of, repeated};
+ghost use Rattle.group.specs.Working.{damage_verdict, looked_of, repeated};
 
 use answers::Refusal;
 use journal::Entry;
@@ -87,9 +87,9 @@ impl<'a> Group<'a> {
     }
 
     // A damaged group is refused.
-    #[tactic(auto, using(answers::proofs::Refusals::order), unfolding(crate::specs::Working::soundness))]
+    #[tactic(auto, using(answers::proofs::Refusals::order), unfolding(crate::specs::Working::damage_verdict))]
     fn sound(&self) -> Result<(), Refusal>
-        ensures { result ≡ soundness self.now.last (held self.now) }
+        ensures { result ≡ damage_verdict self.now.last (held self.now) }
     {
         if self.damaged() {
             return Err(Refusal::Damaged);
