@@ -152,9 +152,9 @@ events_after text e =
     ∙ drop-append-add first (after_line text) (length later))
 
 -- a text that has a byte is an event by that byte
-pub event_by_byte : (text : List ℕ) → 0 < length text → is_event (get_or text 0 0 ∷ []) ≡ is_event text
-event_by_byte [] h = absurd (omega arith)
-event_by_byte (byte ∷ bytes) h = refl
+pub event_by_byte : (text : List ℕ) (byte : ℕ) → 0 < length text → byte ≡ get_or text 0 0 → is_event text ≡ is_event (byte ∷ [])
+event_by_byte [] byte h e = absurd (omega arith)
+event_by_byte (first ∷ bytes) byte h e = rw e refl
 
 -- and the text after its first line is shorter
 pub shorter : (text : List ℕ) → 0 < length text → length (after_line text) < length text

@@ -36,8 +36,8 @@ fn events(input: &[u8]) -> &[u8]
     ensures { result.now ≡ events_text input.now }
 {
     let mut rest = input;
-    while !rest.is_empty() {
-        if begins_event(rest[0]) {
+    while let Some(first) = rest.first() {
+        if begins_event(*first) {
             return rest;
         }
         rest = lines::split_line(rest).1;

@@ -3,8 +3,8 @@ use Rattle.std.proofs.Common.{◌≡◌, length}
 use Rattle.event_text.specs.Share.{events_text}
 use Rattle.event_text.proofs.events.Given as goal
 
-abbrev pub invariant-loop-rest : goal.invariant-loop-rest
-invariant-loop-rest l = events_text l.rest ≡ events_text l.input
+abbrev pub invariant-loop-first : goal.invariant-loop-first
+invariant-loop-first l = events_text l.rest ≡ events_text l.input
 
-abbrev pub decreases-loop-rest : goal.decreases-loop-rest
-decreases-loop-rest l = length l.rest
+abbrev pub decreases-loop-first : goal.decreases-loop-first
+decreases-loop-first l = length l.rest
