@@ -1,7 +1,7 @@
 // The lines of answers, put on a page: A and R with the answer of a call; S, U, V and W with the result of an evaluation.
 #![tactic(auto)]
 
-ghost use Rattle.std.specs.Prelude.{ℕ, ◌≡◌, ◌+◌, ◌*◌, ◌≤◌, ◌<◌, [], ◌∷◌, length};
+ghost use Rattle.std.specs.Prelude.{ℕ, ◌≡◌, ◌+◌, ◌*◌, ◌≤◌, ◌<◌, length};
 ghost use Rattle.lists.specs.Pages.{Room, Added};
 ghost use Rattle.columns.specs.Fields.{total};
 ghost use Rattle.registration.specs.Rules.{points, source_at, count_at};
