@@ -15,7 +15,7 @@ use Rattle.allocation.specs.Input.{Shareable}
 use Rattle.registration.specs.Pairs.{of_producer}
 use Rattle.allocation.specs.Rounds.{Remaining, withdrawal_at, left_at, offer_in, share_in, round_of}
 use Rattle.allocation.specs.declared.Allocated.{Allocated}
-use Rattle.allocation.specs.Working.{remaining_in, FivePlaces, RoundMade}
+use Rattle.allocation.specs.Working.{remaining_in, RoundMade}
 use Rattle.allocation.proofs.Shareable.{pair_of}
 use Rattle.allocation.proofs.Turns.{offer_for, share_for, taken_for, Fallen, Given}
 use Rattle.allocation.proofs.Producers.{taken_within_supply}
@@ -73,10 +73,10 @@ module _ {r : Registration} (s : Shareable r) (start : List ℕ) where
   pub round_made : {before after : Allocated} → before.left ≡ start
       → Fallen r.counts r.sources r.keys start r.producers r.consumers r.consumers (count_at r) after.left
       → Given r.counts r.sources r.keys start r.producers r.consumers before.shares after.shares r.consumers
-      → FivePlaces before.shares → after.rounds ≡ before.rounds
+      → after.rounds ≡ before.rounds
       → RoundMade r before after
   unfolding round_of
-  round_made e f g places same =
+  round_made e f g same =
       record {
         left =
             rw e (equal_parts (table_same _ _ r.consumers (λ c h. f.withdrawals c h ∙ rest_same c h (count_at r c) (omega arith)))
@@ -85,6 +85,5 @@ module _ {r : Registration} (s : Shareable r) (start : List ℕ) where
             let supply = table_at (λ point. get_or start point 0) r.producers p h in
             omega (arith, f.supplies p h, taken_same p, supply))));
         shares = λ c k h l. rw e (g.added c k h l ∙ rw (share_same c h k l));
-        places = λ c h. g.rows c ∙ places c h;
         rounds = same;
       }

@@ -1,24 +1,24 @@
 -- The rounds in the working arrays, one after the other, and the allocation that the arrays hold after the last. Assumes nothing.
-use Prim.Native.Nat.{ℕ, zero, suc, ◌+◌, ◌-◌, ◌≤◌, ◌<◌}
+use Prim.Native.Nat.{ℕ, ◌+◌, ◌-◌, ◌≤◌, ◌<◌}
 use mathlib.Core.Path.{◌≡◌, refl, sym, ap, ◌∙◌}
 use mathlib.Core.Bool.{Bool, true, false}
-use mathlib.Core.List.{List, []}
+use mathlib.Core.List.{List}
 use native.Mathlib.Omega.{arith}
 use native.Mathlib.Nat.{le_antisymm, add-sub_of_le}
 use native.Mathlib.Numerals.{add-one}
 use lib.Dec.{leb}
-use lib.ListN.{length, get_or, replicate}
+use lib.ListN.{get_or}
 use borrow.Author.Tests.{leb-true, leb-false}
 use Rattle.lists.proofs.TableLaws.{table_at}
 use Rattle.registration.specs.declared.Registration.{Registration}
-use Rattle.registration.specs.Rules.{count_at}
+use Rattle.registration.specs.Rules.{count_at, place_at}
 use Rattle.lists.proofs.Below.{sum_none, sum_next}
 use Rattle.values.specs.Values.{magnitude_most}
 use Rattle.allocation.specs.declared.Allocated.{Allocated}
 use Rattle.allocation.specs.Input.{Shareable, Magnitudes}
 use Rattle.allocation.specs.Rounds.{Remaining, withdrawal_at, supply_at, share_in, round_of, after_rounds, received}
 use Rattle.allocation.specs.Result.{Allocation, pairs_of, rounds_for, allocation_of}
-use Rattle.allocation.specs.Working.{remaining_in, by_pair, PairsWithin, FivePlaces, RoundMade, allocation_in}
+use Rattle.allocation.specs.Working.{remaining_in, PairsWithin, RoundMade, allocation_in}
 use Rattle.lists.proofs.Sums.{sum_term}
 use Rattle.allocation.proofs.Pairs.{pairs_same}
 use Rattle.allocation.proofs.Laws.{supply_adds_up, withdrawal_adds_up, within_withdrawal}
@@ -41,32 +41,18 @@ equal_lists e f g h = rw (e, f, g, h)
 pub record Rounded (r : Registration) (most : ℕ) (magnitudes : List ℕ) (allocated : Allocated) (round : ℕ) : Type 0 where
   pub passed : round ≤ most
   pub rounds : allocated.rounds ≡ most
-  pub places : FivePlaces allocated.shares
   pub remains : remaining_in r allocated.left ≡ after_rounds r (remaining_in r magnitudes) round
   pub sums : (consumer priority : ℕ) → consumer < r.consumers → priority < count_at r consumer
-      → by_pair allocated.shares consumer priority ≡ received r (remaining_in r magnitudes) round consumer priority
+      → place_at allocated.shares consumer priority ≡ received r (remaining_in r magnitudes) round consumer priority
 
--- arrays of zeros have 0 for every pair
-pub zero_by_pair : (n : ℕ) (row : List ℕ) → ((k : ℕ) → get_or row k 0 ≡ 0) → (consumer priority : ℕ) → by_pair (replicate n row) consumer priority ≡ 0
-zero_by_pair zero row none consumer priority = refl
-zero_by_pair (suc n) row none zero priority = none priority
-zero_by_pair (suc n) row none (suc consumer) priority = zero_by_pair n row none consumer priority
-
--- and as many places as each array has
-pub places_of_each : (n : ℕ) (row : List ℕ) (consumer : ℕ) → consumer < n → length (get_or (replicate n row) consumer []) ≡ length row
-places_of_each zero row consumer h = absurd (omega arith)
-places_of_each (suc n) row zero h = refl
-places_of_each (suc n) row (suc consumer) h = places_of_each n row consumer (omega arith)
-
-pub rounded_none : (r : Registration) (allocated : Allocated) → ((consumer priority : ℕ) → by_pair allocated.shares consumer priority ≡ 0) → FivePlaces allocated.shares
+pub rounded_none : (r : Registration) (allocated : Allocated) → ((place : ℕ) → get_or allocated.shares place 0 ≡ 0)
     → Rounded r allocated.rounds allocated.left allocated 0
-rounded_none r allocated none places =
+rounded_none r allocated none =
     record {
       passed = omega arith;
       rounds = refl;
-      places = places;
       remains = sym (after_none r (remaining_in r allocated.left));
-      sums = λ c k h l. none c k ∙ sym (sum_none _);
+      sums = λ c k h l. none _ ∙ sym (sum_none _);
     }
 
 module _ {r : Registration} (s : Shareable r) {most round : ℕ} {magnitudes : List ℕ} {allocated : Allocated}
@@ -114,7 +100,6 @@ module _ {r : Registration} (s : Shareable r) {most round : ℕ} {magnitudes : L
       record {
         passed = omega arith;
         rounds = made.rounds ∙ t.rounds;
-        places = made.places;
         remains = made.left ∙ rw (t.remains, after_next);
         sums = λ c k l n.
             let share = ap (λ (start : Remaining). share_in r start c k) t.remains in
@@ -135,7 +120,7 @@ module _ {r : Registration} (s : Shareable r) {most round : ℕ} {magnitudes : L
     remains_last : remaining_in r allocated.left ≡ after_rounds r (remaining_in r magnitudes) (rounds_for r)
     remains_last = t.remains ∙ ap (after_rounds r (remaining_in r magnitudes)) rounds_same
 
-    shares_last : pairs_of r (by_pair allocated.shares) ≡ pairs_of r (received r (remaining_in r magnitudes) (rounds_for r))
+    shares_last : pairs_of r (place_at allocated.shares) ≡ pairs_of r (received r (remaining_in r magnitudes) (rounds_for r))
     shares_last =
         pairs_same r _ _ (λ c k l n. t.sums c k l n ∙ ap (λ (i : ℕ). received r (remaining_in r magnitudes) i c k) rounds_same)
 

@@ -1,8 +1,8 @@
 -- Consumers' turns in the working arrays: what has fallen, when each consumer has gone through so many of its producers. Assumes nothing.
-use Prim.Native.Nat.{ℕ, ◌+◌, ◌-◌, ◌≤◌, ◌<◌}
+use Prim.Native.Nat.{ℕ, ◌+◌, ◌-◌, ◌*◌, ◌≤◌, ◌<◌}
 use mathlib.Core.Path.{◌≡◌, refl, sym, ap, subst, ◌∙◌}
 use mathlib.Core.Bool.{Bool, true, false, cond}
-use mathlib.Core.List.{List, []}
+use mathlib.Core.List.{List}
 use native.Mathlib.Omega.{arith}
 use native.Mathlib.Nat.{le_refl, mul-le-mul}
 use native.Mathlib.Numerals.{add-one}
@@ -16,7 +16,6 @@ use Rattle.lists.specs.Below.{sum_below}
 use Rattle.lists.proofs.Below.{sum_none, sum_next, sum_same, sum_bound}
 use Rattle.lists.proofs.Sums.{sum_more, sum_within, sum_raised}
 use Rattle.registration.specs.Rules.{place_at}
-use Rattle.allocation.specs.Working.{by_pair}
 use Rattle.allocation.specs.Rounds.{offer_of, offer_at, share_of, left_at, share_at}
 
 pub left_none : (offer : ℕ → ℕ) (withdrawal : ℕ) → left_at offer withdrawal 0 ≡ withdrawal
@@ -210,62 +209,52 @@ module _ (counts sources keys start : List ℕ) (producers consumers : ℕ) wher
             supplies = λ p l. supply_next p l (ℕ_discrete p (place_at sources consumer priority - 1));
           }
 
-  -- the pairs' sums: the shares of the consumers before one stand added, and those of its own first priorities; the others' arrays stay
-  pub record Given (before shares : List (List ℕ)) (consumer : ℕ) : Type 0 where
+  -- the pairs' sums: the shares of the consumers before one stand added, and those of its own first priorities
+  pub record Given (before shares : List ℕ) (consumer : ℕ) : Type 0 where
     pub size : length shares ≡ length before
-    pub rows : (c : ℕ) → length (get_or shares c []) ≡ length (get_or before c [])
-    pub added : (c k : ℕ) → c < consumer → k < get_or counts c 0 → by_pair shares c k ≡ by_pair before c k + share_for c k
-    pub waiting : (c : ℕ) → consumer ≤ c → get_or shares c [] ≡ get_or before c []
+    pub added : (c k : ℕ) → c < consumer → k < get_or counts c 0 → place_at shares c k ≡ place_at before c k + share_for c k
+    pub waiting : (c k : ℕ) → consumer ≤ c → k < 5 → place_at shares c k ≡ place_at before c k
 
-  pub record Own (before shares : List (List ℕ)) (consumer priority : ℕ) : Type 0 where
+  pub record Own (before shares : List ℕ) (consumer priority : ℕ) : Type 0 where
     pub size : length shares ≡ length before
-    pub row : length (get_or shares consumer []) ≡ length (get_or before consumer [])
-    pub added : (k : ℕ) → k < priority → by_pair shares consumer k ≡ by_pair before consumer k + share_for consumer k
-    pub waiting : (k : ℕ) → priority ≤ k → by_pair shares consumer k ≡ by_pair before consumer k
-    pub elsewhere : (c : ℕ) → (c ≡ consumer → ⊥) → get_or shares c [] ≡ get_or before c []
+    pub added : (k : ℕ) → k < priority → place_at shares consumer k ≡ place_at before consumer k + share_for consumer k
+    pub waiting : (k : ℕ) → priority ≤ k → k < 5 → place_at shares consumer k ≡ place_at before consumer k
+    pub elsewhere : (c k : ℕ) → (c ≡ consumer → ⊥) → k < 5 → place_at shares c k ≡ place_at before c k
 
-  pub given_none : (shares : List (List ℕ)) → Given shares shares 0
-  given_none shares = record { size = refl; rows = λ c. refl; added = λ c k h. absurd (omega arith); waiting = λ c h. refl }
+  pub given_none : (shares : List ℕ) → Given shares shares 0
+  given_none shares = record { size = refl; added = λ c k h. absurd (omega arith); waiting = λ c k h l. refl }
 
   -- those of all consumers
-  pub given_all : {before shares : List (List ℕ)} {consumer : ℕ} → Given before shares consumer → consumer ≡ consumers → Given before shares consumers
+  pub given_all : {before shares : List ℕ} {consumer : ℕ} → Given before shares consumer → consumer ≡ consumers → Given before shares consumers
   given_all {before} {shares} s e = subst (Given before shares) e s
 
-  pub own_none : (shares : List (List ℕ)) (consumer : ℕ) → Own shares shares consumer 0
+  pub own_none : (shares : List ℕ) (consumer : ℕ) → Own shares shares consumer 0
   own_none shares consumer =
-      record { size = refl; row = refl; added = λ k h. absurd (omega arith); waiting = λ k h. refl; elsewhere = λ c d. refl }
+      record { size = refl; added = λ k h. absurd (omega arith); waiting = λ k h l. refl; elsewhere = λ c k d l. refl }
 
-  pub own_next : {before shares : List (List ℕ)} {consumer priority : ℕ} → Own before shares consumer priority
-      → consumer < length before → priority < length (get_or before consumer [])
+  pub own_next : {before shares : List ℕ} {consumer priority : ℕ} → Own before shares consumer priority → length before ≡ 320 → consumer < 64 → priority < 5
       → (share : ℕ) → share ≡ share_for consumer priority
-      → Own before (set shares consumer (set (get_or shares consumer []) priority (by_pair shares consumer priority + share))) consumer (priority + 1)
-  own_next {before} {shares} {consumer} {priority} o h l share e =
-      let row = set (get_or shares consumer []) priority (by_pair shares consumer priority + share) in
-      let here : get_or (set shares consumer row) consumer [] ≡ row = get_or-set_same shares consumer row [] (omega (arith, o.size)) in
+      → Own before (set shares (5 * consumer + priority) (get_or shares (5 * consumer + priority) 0 + share)) consumer (priority + 1)
+  own_next {before} {shares} {consumer} {priority} o size h l share e =
+      let place = 5 * consumer + priority in
       record {
         size = simp length-set o.size;
-        row = rw here (simp length-set o.row);
         added =
-            below_more _ priority (λ k m. rw here (get_or-set_other (get_or shares consumer []) priority k _ 0 (omega arith) ∙ o.added k m))
-            (rw here (get_or-set_same (get_or shares consumer []) priority _ 0 (omega (arith, o.row)) ∙ rw (o.waiting priority (omega arith), e)));
-        waiting = λ k m. rw here (get_or-set_other (get_or shares consumer []) priority k _ 0 (omega arith) ∙ o.waiting k (omega arith));
-        elsewhere = λ c d. get_or-set_other shares consumer c row [] d ∙ o.elsewhere c d;
+            below_more _ priority (λ k m. get_or-set_other shares place (5 * consumer + k) _ 0 (omega arith) ∙ o.added k m)
+            (get_or-set_same shares place _ 0 (omega (arith, o.size)) ∙ rw (o.waiting priority (omega arith) l, e));
+        waiting = λ k m n. get_or-set_other shares place (5 * consumer + k) _ 0 (omega arith) ∙ o.waiting k (omega arith) n;
+        elsewhere = λ c k d n. get_or-set_other shares place (5 * c + k) _ 0 (λ i. d (omega arith)) ∙ o.elsewhere c k d n;
       }
 
   -- a consumer's own shares, all of them, join those of the consumers before it
-  pub given_next : {before between shares : List (List ℕ)} {consumer priority : ℕ}
+  pub given_next : {before between shares : List ℕ} {consumer priority : ℕ} → ((c : ℕ) → c ≤ consumer → get_or counts c 0 ≤ 5)
       → Given before between consumer → Own between shares consumer priority → get_or counts consumer 0 ≤ priority → Given before shares (consumer + 1)
-  given_next {before} {between} {shares} {consumer} s o last =
+  given_next {before} {between} {shares} {consumer} few s o last =
       record {
         size = o.size ∙ s.size;
-        rows = λ c. row_of c (ℕ_discrete c consumer);
         added = λ c k h l.
-            below_more (λ (c : ℕ). (k : ℕ) → k < get_or counts c 0 → by_pair shares c k ≡ by_pair before c k + share_for c k) consumer
-            (λ c h k l. rw (o.elsewhere c (omega arith)) (s.added c k h l))
-            (λ k l. o.added k (omega arith) ∙ rw (s.waiting consumer (omega arith))) c h k l;
-        waiting = λ c h. o.elsewhere c (omega arith) ∙ s.waiting c (omega arith);
+            below_more (λ (c : ℕ). (k : ℕ) → k < get_or counts c 0 → place_at shares c k ≡ place_at before c k + share_for c k) consumer
+            (λ c h k l. o.elsewhere c k (omega arith) (omega (arith, few c (omega arith))) ∙ s.added c k h l)
+            (λ k l. o.added k (omega arith) ∙ rw (s.waiting consumer k (omega arith) (omega (arith, few consumer (omega arith))))) c h k l;
+        waiting = λ c k h l. o.elsewhere c k (omega arith) l ∙ s.waiting c k (omega arith) l;
       }
-    where
-      row_of : (c : ℕ) → Dec (c ≡ consumer) → length (get_or shares c []) ≡ length (get_or before c [])
-      row_of c (yes e) = rw e (o.row ∙ s.rows consumer)
-      row_of c (no n) = rw (o.elsewhere c n) (s.rows c)

@@ -1,7 +1,7 @@
--- What the code's working arrays hold: magnitudes by point, producers first, and numbers by consumer and priority. Assumes nothing.
-use Rattle.std.specs.Prelude.{ℕ, ◌+◌, ◌≤◌, ◌<◌, ◌≡◌, List, [], length, get_or}
+-- What the code's working arrays hold: magnitudes by point, producers first, and numbers by pair, at 5 × consumer + priority. Assumes nothing.
+use Rattle.std.specs.Prelude.{ℕ, ◌+◌, ◌≤◌, ◌<◌, ◌≡◌, List, get_or}
 use Rattle.registration.specs.declared.Registration.{Registration}
-use Rattle.registration.specs.Rules.{count_at}
+use Rattle.registration.specs.Rules.{count_at, place_at}
 use Rattle.allocation.specs.declared.Allocated.{Allocated}
 use Rattle.values.specs.Values.{magnitude_most}
 use Rattle.allocation.specs.Rounds.{Remaining, share_in, round_of}
@@ -11,31 +11,22 @@ use Rattle.allocation.specs.Result.{Allocation, start_of, pairs_of}
 abbrev pub remaining_in : Registration → List ℕ → Remaining
 remaining_in r left = start_of r (λ point. get_or left point 0)
 
--- the number of a pair, as an array of arrays holds it: one array for each consumer, with a place for each priority
-abbrev pub by_pair : List (List ℕ) → (consumer priority : ℕ) → ℕ
-by_pair numbers consumer priority = get_or (get_or numbers consumer []) priority 0
-
 -- what a pair has in an array of pairs is at most the greatest magnitude
-abbrev pub PairsWithin : Registration → List (List ℕ) → Type 0
-PairsWithin r shares = (consumer priority : ℕ) → consumer < r.consumers → priority < count_at r consumer → by_pair shares consumer priority ≤ magnitude_most
+abbrev pub PairsWithin : Registration → List ℕ → Type 0
+PairsWithin r shares = (consumer priority : ℕ) → consumer < r.consumers → priority < count_at r consumer → place_at shares consumer priority ≤ magnitude_most
 
--- each consumer's array has its five places, as in every value of the type; the list of lists alone does not say it
-abbrev pub FivePlaces : List (List ℕ) → Type 0
-FivePlaces numbers = (consumer : ℕ) → consumer < 64 → length (get_or numbers consumer []) ≡ 5
-
--- a round made in the working arrays: what was left and is left of each point, and the shares added for each pair; the places and the round count stay
+-- a round made in the working arrays: what was left and is left of each point, and the shares added for each pair; the round count stays
 pub record RoundMade (r : Registration) (before after : Allocated) : Type 0 where
   pub left : remaining_in r after.left ≡ round_of r (remaining_in r before.left)
   pub shares : (consumer priority : ℕ) → consumer < r.consumers → priority < count_at r consumer
-      → by_pair after.shares consumer priority ≡ by_pair before.shares consumer priority + share_in r (remaining_in r before.left) consumer priority
-  pub places : FivePlaces after.shares
+      → place_at after.shares consumer priority ≡ place_at before.shares consumer priority + share_in r (remaining_in r before.left) consumer priority
   pub rounds : after.rounds ≡ before.rounds
 
 -- the allocation that the arrays hold
 abbrev pub allocation_in : Registration → Allocated → Allocation
 allocation_in r allocated =
     record {
-      shares = pairs_of r (by_pair allocated.shares);
+      shares = pairs_of r (place_at allocated.shares);
       withdrawals = (remaining_in r allocated.left).withdrawals;
       supplies = (remaining_in r allocated.left).supplies;
       rounds = allocated.rounds;

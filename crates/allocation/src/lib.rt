@@ -6,7 +6,7 @@ ghost use Rattle.values.specs.Values.{magnitude_most};
 ghost use Rattle.allocation.specs.Input.{Shareable, Magnitudes};
 ghost use Rattle.allocation.specs.Rounds.{rounds_of, offer_of, share_of};
 ghost use Rattle.allocation.specs.Result.{allocation_of};
-ghost use Rattle.allocation.specs.Working.{PairsWithin, FivePlaces, RoundMade, allocation_in};
+ghost use Rattle.allocation.specs.Working.{PairsWithin, RoundMade, allocation_in};
 
 use registration::Registration;
 
@@ -15,11 +15,12 @@ pub const ROUNDS_MOST: usize = 5;
 
 pub const POINTS_ITERATED_MOST: usize = 50;
 
-// An allocation of a quarter hour in working arrays: what each pair received, by consumer and priority; what is left of each point, producers first; and
+// An allocation of a quarter hour in working arrays: what each pair received, at 5 × consumer + priority; what is left of each point, producers first; and
 // the round count. What stands at places of no pair and of no point is free.
 #[derive(Clone, Copy)]
 pub struct Allocated {
-    pub shares: [[u64; 5]; 64],
+    // one array of 320 numbers, as the project asks
+    pub shares: [u64; 320],
     pub left: [u64; 64],
     pub rounds: usize,
 }
@@ -50,7 +51,7 @@ impl Allocated {
     // once, and of the supply for the next round: what is offered in this one rests on the supplies at its start.
     #[tactic(auto, using(crate::proofs::Named::right, crate::proofs::Shareable::few_points, crate::proofs::Shareable::count_most))]
     fn make_round(&mut self, registration: &Registration)
-        requires { Shareable registration.now × Magnitudes registration.now (λ point. get_or self.old.left point 0) × PairsWithin registration.now self.old.shares × FivePlaces self.old.shares }
+        requires { Shareable registration.now × Magnitudes registration.now (λ point. get_or self.old.left point 0) × PairsWithin registration.now self.old.shares }
         ensures { RoundMade registration.now self.old self.new }
     {
         let start = self.left;
@@ -64,7 +65,7 @@ impl Allocated {
                 let share = share_of(withdrawal, pair.key, start[producer]);
                 withdrawal -= share;
                 self.left[producer] -= share;
-                self.shares[consumer][priority] += share;
+                self.shares[Registration::SOURCES * consumer + priority] += share;
             }
             self.left[point] = withdrawal;
         }
@@ -74,8 +75,7 @@ impl Allocated {
 // The allocation of a quarter hour from the magnitudes of all points, producers first.
 pub fn allocate(registration: &Registration, magnitudes: &[u64; 64]) -> Allocated
     requires { Shareable registration.now × Magnitudes registration.now (λ point. get_or magnitudes.now point 0) }
-    ensures held { allocation_in registration.now result ≡ allocation_of registration.now (λ point. get_or magnitudes.now point 0) }
-    ensures places { FivePlaces result.shares }
+    ensures { allocation_in registration.now result ≡ allocation_of registration.now (λ point. get_or magnitudes.now point 0) }
 {
     let rounds = rounds(
         registration.iteration,
@@ -83,7 +83,7 @@ pub fn allocate(registration: &Registration, magnitudes: &[u64; 64]) -> Allocate
         registration.consumers,
     );
     let mut allocated = Allocated {
-        shares: [[0; 5]; 64],
+        shares: [0; 320],
         left: *magnitudes,
         rounds,
     };

@@ -34,7 +34,7 @@ shares_there r consumer h =
     omega (arith, sum_next (count_at r) consumer, sum_more (count_at r) (consumer + 1) r.consumers (omega arith))
 
 -- the numbers of a slice
-slice_table : (numbers : List ℕ) (at n : ℕ) → at + n ≤ length numbers → take (at + n - at) (drop at numbers) ≡ table (λ i. get_or numbers (at + i) 0) n
+pub slice_table : (numbers : List ℕ) (at n : ℕ) → at + n ≤ length numbers → take (at + n - at) (drop at numbers) ≡ table (λ i. get_or numbers (at + i) 0) n
 slice_table numbers at n h =
     let some : at + n - at ≡ n = omega arith in
     rw some (sym (table_same _ _ n (λ i l. sym (get_or-drop at numbers i 0)) ∙ table_take (drop at numbers) n (rw length-drop (omega arith))))

@@ -5,12 +5,11 @@
 ghost use Rattle.std.specs.Prelude.{◌≡◌, ◌*◌, ◌≤◌, ℕ, ◌<◌, length, get_or, sum};
 ghost use Rattle.lists.specs.Place.{placed};
 ghost use Rattle.lists.specs.Pages.{Room, Added};
-ghost use Rattle.registration.specs.Rules.{points};
+ghost use Rattle.registration.specs.Rules.{points, place_at};
 ghost use Rattle.registration.specs.Pairs.{pairs_in};
 ghost use Rattle.journal.specs.Stored.{entries_in};
 ghost use Rattle.allocation.specs.Input.{Shareable};
 ghost use Rattle.allocation.specs.Result.{pairs_of};
-ghost use Rattle.allocation.specs.Working.{by_pair, FivePlaces};
 ghost use Rattle.lookup.specs.Substitutes.{number_of_origin};
 ghost use Rattle.lookup.specs.Working.{value_of_point};
 ghost use Rattle.evaluation.specs.Evaluation.{result_from};
@@ -61,13 +60,15 @@ pub fn layout_of(registration: &Registration) -> Layout
 }
 
 // Puts the pairs' shares, consumers in order and priorities within.
-fn put_shares(page: &mut Page<u64>, registration: &Registration, shares: &[[u64; 5]; 64])
-    requires { Shareable registration.now × FivePlaces shares.now × Room (pairs_in registration.now) page.old }
-    ensures { Added (pairs_of registration.now (by_pair shares.now)) page.old page.new }
+fn put_shares(page: &mut Page<u64>, registration: &Registration, shares: &[u64; 320])
+    requires { Shareable registration.now × Room (pairs_in registration.now) page.old }
+    ensures { Added (pairs_of registration.now (place_at shares.now)) page.old page.new }
 {
-    let counts = &registration.counts[..registration.consumers];
-    for (row, count) in shares.iter().zip(counts) {
-        page.put(&row[..usize::from(*count)]);
+    // by number: the array has five places for each consumer, and they are found by it
+    for consumer in 0..registration.consumers {
+        let first = Registration::SOURCES * consumer;
+        let end = first + usize::from(registration.counts[consumer]);
+        page.put(&shares[first..end]);
     }
 }
 
@@ -88,7 +89,7 @@ fn put_parts(
     allocated: &Allocated,
     values: &[PointValue],
 )
-    requires { Shareable registration.now × FivePlaces allocated.now.shares × (length values.now ≡ points registration.now) × (size_of registration.now ≤ length list.old) }
+    requires { Shareable registration.now × (length values.now ≡ points registration.now) × (size_of registration.now ≤ length list.old) }
     ensures { list.new ≡ placed 0 (result_of (result_in registration.now allocated.now (origins_of values.now))) list.old }
 {
     let points = registration.points();

@@ -26,5 +26,5 @@ pub returns : goal.returns
 returns c =
     let all = looked_up (goal.at.returns c).After-values-values in
     evaluated c.args.registration.now c.values-values.result (search rules) (few_points c.requires.0) all (search rules)
-    c.magnitudes.result c.magnitudes.ensures c.allocate-allocated.result c.allocate-allocated.ensures.held
+    c.magnitudes.result c.magnitudes.ensures c.allocate-allocated.result c.allocate-allocated.ensures
     (rw c.points-points.ensures at c.put_parts.ensures)

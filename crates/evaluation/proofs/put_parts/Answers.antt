@@ -4,8 +4,7 @@ use Rattle.lists.specs.Pages.{Room}
 use Rattle.lists.specs.Tables.{table}
 use Rattle.lists.proofs.Adding.{added_then, lent_put}
 use Rattle.lists.proofs.TableLaws.{length_table}
-use Rattle.registration.specs.Rules.{points}
-use Rattle.allocation.specs.Working.{by_pair}
+use Rattle.registration.specs.Rules.{points, place_at}
 use Rattle.allocation.proofs.Pairs.{pairs_length}
 use Rattle.allocation.proofs.Shareable.{few_points}
 use Rattle.evaluation.proofs.Parts.{front_table, back_table}
@@ -37,10 +36,10 @@ sizes : (c : After-put_shares) → let r = c.args.registration.now in
     × Room (r.consumers + r.producers + points r) c.put_shares.new.page
 sizes c =
     let r = c.args.registration.now in
-    let shares = pairs_length r (by_pair c.args.allocated.now.shares) in (
+    let shares = pairs_length r (place_at c.args.allocated.now.shares) in (
       rw (withdrawals c) (length_table _ r.consumers),
       rw (supplies c) (length_table _ r.producers),
-      omega (arith, c.requires.3, c.put_shares.ensures.put.end, c.put_shares.ensures.same_length),
+      omega (arith, c.requires.2, c.put_shares.ensures.put.end, c.put_shares.ensures.same_length),
     )
 
 pub put-requires : goal.put-requires
@@ -54,7 +53,7 @@ put-requires-2 c =
 pub put_origins-requires : goal.put_origins-requires
 put_origins-requires c =
     let s = sizes (goal.at.put_origins-requires c).After-put_shares in
-    omega (arith, c.requires.2, c.put.ensures.put.end, c.put.ensures.same_length, c.put-2.ensures.put.end, c.put-2.ensures.same_length)
+    omega (arith, c.requires.1, c.put.ensures.put.end, c.put.ensures.same_length, c.put-2.ensures.put.end, c.put-2.ensures.same_length)
 
 pub returns : goal.returns
 returns c =

@@ -11,7 +11,7 @@ use Rattle.registration.specs.declared.Pair.{Pair}
 use Rattle.registration.specs.Rules.{count_at, pair_at, no_pair}
 use Rattle.values.specs.Values.{magnitude_most}
 use Rattle.allocation.specs.Input.{Shareable}
-use Rattle.allocation.specs.Working.{by_pair}
+use Rattle.registration.specs.Rules.{place_at}
 use Rattle.allocation.specs.Rounds.{share_of, offer_of}
 use Rattle.allocation.proofs.Shareable.{few_points, count_most, pair_of}
 use Rattle.allocation.proofs.Named.{one_of, there, right}
@@ -89,16 +89,17 @@ overflow_sub-self c =
     let at = (goal.at.overflow_sub-self c).After-share_of-share in
     rw (pair at, share at) (share_within _ _ _ _ _ _ c.loop-priority.invariant.fallen (taken at))
 
-pub overflow_add-self : goal.overflow_add-self
-overflow_add-self c =
+pub overflow_add-self-in-loop-priority : goal.overflow_add-self-in-loop-priority
+overflow_add-self-in-loop-priority c =
     let k = c.loop-priority.priority in
     let bounds = right c.requires.0 c.pairs.result c.loop-consumer-test.true c.from-count.ensures c.pairs.ensures c.loop-priority-test.true in
     let supply = c.requires.1 ((get_or (take c.from-count.result c.pairs.result) k no_pair).source - 1) (omega (arith, bounds.source_least, bounds.source_most)) in
-    let now = c.loop-priority.invariant.own.waiting k (omega arith) in
-    let then = ap (λ (row : List ℕ). get_or row k 0) (c.loop-consumer.invariant.given.waiting c.loop-consumer.consumer (omega arith)) in
-    let before = c.requires.2 c.loop-consumer.consumer k c.loop-consumer-test.true (one (goal.at.overflow_add-self c).After-share_of-share) in
+    let five : k < 5 = omega (arith, one (goal.at.overflow_add-self-in-loop-priority c).After-share_of-share, count_most c.requires.0 c.loop-consumer.consumer c.loop-consumer-test.true) in
+    let now = c.loop-priority.invariant.own.waiting k (omega arith) five in
+    let then = c.loop-consumer.invariant.given.waiting c.loop-consumer.consumer k (omega arith) five in
+    let before = c.requires.2 c.loop-consumer.consumer k c.loop-consumer-test.true (one (goal.at.overflow_add-self-in-loop-priority c).After-share_of-share) in
     let small = offer_small _ _ magnitude_most bounds.key_most supply in
-    let fits : by_pair c.loop-priority.self.shares c.loop-consumer.consumer k + c.share_of-share.result < 2 ^ 64 =
+    let fits : place_at c.loop-priority.self.shares c.loop-consumer.consumer k + c.share_of-share.result < 2 ^ 64 =
     omega (arith, now, then, before, c.share_of-share.ensures, small) in
     search rules
 
@@ -107,16 +108,14 @@ loop-priority-preserved c =
     let at = (goal.at.loop-priority-preserved c).After-share_of-share in
     let inv = c.loop-priority.invariant in
     let consumer = c.loop-consumer.consumer in
-    let size : length c.args.self.now.shares ≡ 64 = search rules in
-    let known : consumer < 64 = omega (arith, few_points c.requires.0) in
-    let places = c.loop-consumer.invariant.given.rows consumer ∙ c.requires.3 consumer known in
+    let size : length c.args.self.now.shares ≡ 320 = search rules in
     let most = count_most c.requires.0 consumer c.loop-consumer-test.true in
     let here = one at in
     rw (pair at) (record {
       few = inv.few;
       withdrawal = left_here _ _ _ inv.withdrawal (share at);
       fallen = fallen_next _ _ _ _ _ _ inv.fallen (taken at) c.share_of-share.result (share at);
-      own = own_next _ _ _ _ _ _ inv.own (omega (arith, c.loop-consumer.invariant.given.size)) (omega arith) c.share_of-share.result (share at);
+      own = own_next _ _ _ _ _ _ inv.own (c.loop-consumer.invariant.given.size ∙ size) (omega (arith, few_points c.requires.0)) (omega arith) c.share_of-share.result (share at);
       rounds = inv.rounds;
     })
 
@@ -134,7 +133,7 @@ loop-consumer-preserved c =
       fallen =
           fallen_same _ _ _ _ _ _ (fallen_turn _ _ _ _ _ _ l.invariant.fallen l.withdrawal (omega arith) (l.invariant.withdrawal ∙ rw last))
           (λ k h. rw last (passed_turn r.counts c.loop-consumer.consumer k));
-      given = given_next _ _ _ _ _ _ c.loop-consumer.invariant.given l.invariant.own (omega arith);
+      given = given_next _ _ _ _ _ _ (λ k h. count_most p k (omega arith)) c.loop-consumer.invariant.given l.invariant.own (omega arith);
       rounds = l.invariant.rounds;
     }
 
@@ -142,4 +141,4 @@ pub returns : goal.returns
 returns c =
     let l = c.loop-consumer in
     let last : l.consumer ≡ c.args.registration.now.consumers = omega arith in
-    round_made c.requires.0 _ refl (fallen_all _ _ _ _ _ _ l.invariant.fallen last) (given_all _ _ _ _ _ _ l.invariant.given last) c.requires.3 l.invariant.rounds
+    round_made c.requires.0 _ refl (fallen_all _ _ _ _ _ _ l.invariant.fallen last) (given_all _ _ _ _ _ _ l.invariant.given last) l.invariant.rounds
