@@ -15,8 +15,8 @@ pub const ROUNDS_MOST: usize = 5;
 
 pub const POINTS_ITERATED_MOST: usize = 50;
 
-// An allocation of a quarter hour in working arrays: what each pair received, at 5 × consumer + priority; what is left of each point, producers first; and
-// the round count. What stands at places of no pair and of no point is free.
+// An allocation of a quarter hour in working arrays: what each pair received, at 5 × consumer + priority; what is left of each point,
+// producers first; and the round count. What stands at places of no pair and of no point is free.
 #[derive(Clone, Copy)]
 pub struct Allocated {
     // one array of 320 numbers, as the project asks

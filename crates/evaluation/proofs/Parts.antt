@@ -8,8 +8,9 @@ use native.Mathlib.Numerals.{add-one}
 use lib.ListN.{length, get_or, take, drop, length-append, length-drop}
 use lib.Seq.{take_at, drop_at, take-suc, get_or-drop, get_or-take}
 use lib.Seq.{take-take}
-use Rattle.std.proofs.lemmas.List.{drop-take}
+use Rattle.std.proofs.lemmas.List.{drop-drop, drop-take}
 use Rattle.std.specs.Prelude.{sum}
+use Rattle.std.specs.Simd.{first_chunks}
 use Rattle.std.proofs.lemmas.List.Sums.{sum_by_more, sum_by-cons}
 use Rattle.lists.specs.Below.{sum_below}
 use Rattle.lists.specs.Place.{placed}
@@ -34,10 +35,28 @@ shares_there r consumer h =
     omega (arith, sum_next (count_at r) consumer, sum_more (count_at r) (consumer + 1) r.consumers (omega arith))
 
 -- the numbers of a slice
-pub slice_table : (numbers : List ℕ) (at n : ℕ) → at + n ≤ length numbers → take (at + n - at) (drop at numbers) ≡ table (λ i. get_or numbers (at + i) 0) n
+slice_table : (numbers : List ℕ) (at n : ℕ) → at + n ≤ length numbers → take (at + n - at) (drop at numbers) ≡ table (λ i. get_or numbers (at + i) 0) n
 slice_table numbers at n h =
     let some : at + n - at ≡ n = omega arith in
     rw some (sym (table_same _ _ n (λ i l. sym (get_or-drop at numbers i 0)) ∙ table_take (drop at numbers) n (rw length-drop (omega arith))))
+
+-- the arrays of five that a list of numbers is read as: how many they are, one of them, and its first numbers
+pub length_fives : (n : ℕ) (numbers : List ℕ) → length (first_chunks 5 n numbers) ≡ n
+length_fives zero numbers = refl
+length_fives (suc n) numbers = ap suc (length_fives n (drop 5 numbers))
+
+five_places : (n : ℕ) (numbers : List ℕ) (i : ℕ) → i < n → get_or (first_chunks 5 n numbers) i [] ≡ take 5 (drop (5 * i) numbers)
+five_places zero numbers i h = absurd (omega arith)
+five_places (suc n) numbers zero h = refl
+five_places (suc n) numbers (suc i) h =
+    let next : 5 + 5 * i ≡ 5 * suc i = omega arith in
+    five_places n (drop 5 numbers) i (omega arith) ∙ ap (take 5) (drop-drop (5 * i) 5 numbers ∙ ap (λ (k : ℕ). drop k numbers) next)
+
+pub five_numbers : (n : ℕ) (numbers : List ℕ) (i count : ℕ) → i < n → count ≤ 5 → 5 * n ≤ length numbers
+    → take count (get_or (first_chunks 5 n numbers) i []) ≡ table (λ k. get_or numbers (5 * i + k) 0) count
+five_numbers n numbers i count h few all =
+    let some : 5 * i + count - 5 * i ≡ count = omega arith in
+    rw (five_places n numbers i h) (take-take count 5 (drop (5 * i) numbers) few ∙ rw some at (slice_table numbers (5 * i) count (omega arith)))
 
 -- the two parts of the first numbers
 pub front_table : (numbers : List ℕ) (at n : ℕ) → at + n ≤ length numbers → take at (take (at + n) numbers) ≡ table (λ i. get_or numbers i 0) at

@@ -64,11 +64,10 @@ fn put_shares(page: &mut Page<u64>, registration: &Registration, shares: &[u64; 
     requires { Shareable registration.now × Room (pairs_in registration.now) page.old }
     ensures { Added (pairs_of registration.now (place_at shares.now)) page.old page.new }
 {
-    // by number: the array has five places for each consumer, and they are found by it
-    for consumer in 0..registration.consumers {
-        let first = Registration::SOURCES * consumer;
-        let end = first + usize::from(registration.counts[consumer]);
-        page.put(&shares[first..end]);
+    let counts = &registration.counts[..registration.consumers];
+    let (rows, _) = shares.as_chunks::<{ Registration::SOURCES }>();
+    for (row, count) in rows.iter().zip(counts) {
+        page.put(&row[..usize::from(*count)]);
     }
 }
 

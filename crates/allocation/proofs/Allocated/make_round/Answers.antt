@@ -1,5 +1,5 @@
 -- `allocation::Allocated::make_round` meets its contract: consumer by consumer, and priority by priority within its turn. Assumes nothing.
-use Prim.Native.Nat.{ℕ, ◌+◌, ◌-◌, ◌^◌, ◌<◌}
+use Prim.Native.Nat.{ℕ, ◌+◌, ◌-◌, ◌<◌}
 use mathlib.Core.Path.{◌≡◌, refl, sym, ap, ◌∙◌}
 use mathlib.Core.List.{List}
 use native.Mathlib.Omega.{arith}
@@ -11,7 +11,6 @@ use Rattle.registration.specs.declared.Pair.{Pair}
 use Rattle.registration.specs.Rules.{count_at, pair_at, no_pair}
 use Rattle.values.specs.Values.{magnitude_most}
 use Rattle.allocation.specs.Input.{Shareable}
-use Rattle.registration.specs.Rules.{place_at}
 use Rattle.allocation.specs.Rounds.{share_of, offer_of}
 use Rattle.allocation.proofs.Shareable.{few_points, count_most, pair_of}
 use Rattle.allocation.proofs.Named.{one_of, there, right}
@@ -92,16 +91,15 @@ overflow_sub-self c =
 pub overflow_add-self-in-loop-priority : goal.overflow_add-self-in-loop-priority
 overflow_add-self-in-loop-priority c =
     let k = c.loop-priority.priority in
-    let bounds = right c.requires.0 c.pairs.result c.loop-consumer-test.true c.from-count.ensures c.pairs.ensures c.loop-priority-test.true in
+    let h = c.loop-consumer-test.true in
+    let here = one (goal.at.overflow_add-self-in-loop-priority c).After-share_of-share in
+    let bounds = right c.requires.0 c.pairs.result h c.from-count.ensures c.pairs.ensures c.loop-priority-test.true in
     let supply = c.requires.1 ((get_or (take c.from-count.result c.pairs.result) k no_pair).source - 1) (omega (arith, bounds.source_least, bounds.source_most)) in
-    let five : k < 5 = omega (arith, one (goal.at.overflow_add-self-in-loop-priority c).After-share_of-share, count_most c.requires.0 c.loop-consumer.consumer c.loop-consumer-test.true) in
+    let five : k < 5 = omega (arith, here, count_most c.requires.0 c.loop-consumer.consumer h) in
     let now = c.loop-priority.invariant.own.waiting k (omega arith) five in
     let then = c.loop-consumer.invariant.given.waiting c.loop-consumer.consumer k (omega arith) five in
-    let before = c.requires.2 c.loop-consumer.consumer k c.loop-consumer-test.true (one (goal.at.overflow_add-self-in-loop-priority c).After-share_of-share) in
     let small = offer_small _ _ magnitude_most bounds.key_most supply in
-    let fits : place_at c.loop-priority.self.shares c.loop-consumer.consumer k + c.share_of-share.result < 2 ^ 64 =
-    omega (arith, now, then, before, c.share_of-share.ensures, small) in
-    search rules
+    omega (arith, now, then, c.requires.2 c.loop-consumer.consumer k h here, c.share_of-share.ensures, small)
 
 pub loop-priority-preserved : goal.loop-priority-preserved
 loop-priority-preserved c =
