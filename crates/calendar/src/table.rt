@@ -1,7 +1,7 @@
 // The table of changeover days.
 
 // The days on which clocks change, from 2024 to 2099, that of March and that of October in turn, counted from 1 January 2024, which is day 0.
-// One flat list, not a pair for each year: C and program `changeovers` ask for its entries by place.
+// One flat list, not a pair for each year: C asks for its entries by place, and program `changeovers` prints them in turn.
 pub const CHANGEOVERS: [u16; 152] = [
     90, 300, 454, 664, 818, 1028, 1182, 1399, 1546, 1763, 1910, 2127, 2281, 2491, 2645, 2855, 3009,
     3226, 3373, 3590, 3737, 3954, 4101, 4318, 4472, 4682, 4836, 5046, 5200, 5417, 5564, 5781, 5928,

@@ -1,4 +1,4 @@
--- What the code finds out on the way to the answer of a submission. Assumes nothing.
+-- What the code finds out on the way to the answer of a call. Assumes nothing.
 use Rattle.std.specs.Prelude.{ℕ, cond, Option}
 use Rattle.std.specs.Prelude.{Ok}
 use Rattle.std.specs.Bool.{then_some}
