@@ -35,7 +35,8 @@ fn byte_before(minus: bool, n: u64) -> u8
 }
 
 // Fills a column from its right end: by hand, since a number too large for its column fills it with its last digits, which no format of the library does.
-// The sign stands beside a magnitude, since an i64 does not hold every u64. The index stays: as `before.iter_mut().rev()` its proof did not close, since
+// The sign stands beside a magnitude, here and in reading: an i64 does not hold every u64, and what was read is written again, with its sign, to be
+// compared. The index stays: as `before.iter_mut().rev()` its proof did not close, since
 // of what is written through that iterator nothing is known.
 fn write_column(out: &mut [u8], minus: bool, value: u64)
     ensures { out.new ≡ column_of minus (length out.old) value }
@@ -53,7 +54,7 @@ fn write_column(out: &mut [u8], minus: bool, value: u64)
     }
 }
 
-// Fills a column with a number: a function for each of the two kinds, here and in reading, since a trait with two impls would be longer.
+// Fills a column with a number. This and `write_signed` are one line each, so that a trait with two impls would be longer.
 pub fn write_number(out: &mut [u8], value: u64)
     ensures { out.new ≡ column_of false (length out.old) value }
 {
@@ -72,11 +73,7 @@ fn digit_of(byte: u8) -> u64
     ensures value { result ≡ digit_of byte }
     ensures upper_bound { result ≤ 9 }
 {
-    if byte.is_ascii_digit() {
-        u64::from(byte - b'0')
-    } else {
-        0
-    }
+    char::from(byte).to_digit(10).map_or(0, u64::from)
 }
 
 // The number that a column's digits make, whatever else stands there.
