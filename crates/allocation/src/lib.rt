@@ -10,16 +10,17 @@ ghost use Rattle.allocation.specs.Working.{PairsWithin, RoundMade, allocation_in
 
 use registration::Registration;
 
-// The most rounds that there are, and the most points with which there is more than one.
+// The most rounds that there are.
 pub const ROUNDS_MOST: usize = 5;
 
+// The most points with which there is more than one round.
 pub const POINTS_ITERATED_MOST: usize = 50;
 
-// An allocation of a quarter hour in working arrays: what each pair received, at 5 × consumer + priority; what is left of each point,
-// producers first; and the round count. What stands at places of no pair and of no point is free.
+// An allocation of a quarter hour in working arrays: what each pair received, at 5 × consumer + priority; what is left of each point, producers first; and
+// the round count. What stands at places of no pair and of no point is free: the arrays are as long as any group needs, since there is no heap.
 #[derive(Clone, Copy)]
 pub struct Allocated {
-    // one array of 320 numbers, as the project asks
+    // one array of 320 numbers: a form that the project has to have, as docs/DECISIONS.md lists them
     pub shares: [u64; 320],
     pub left: [u64; 64],
     pub rounds: usize,

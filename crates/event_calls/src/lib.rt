@@ -28,7 +28,8 @@ pub fn put_answer(page: &mut Page<u8>, answer: Result<u64, Refusal>)
     event_writer::ANSWER.put(page, [answers::answer(&answer), answer.unwrap_or(0)])
 }
 
-// Puts the R line of what an evaluation answers: the round count, 0 where it is refused.
+// Puts the R line of what an evaluation answers: the round count, 0 where it is refused. It is a function beside `put_answer`, since format and kind of
+// number differ, and each is one line.
 fn put_rounds(page: &mut Page<u8>, answer: Result<usize, Refusal>)
     requires { Room bytes_of_rounds page.old }
     ensures { Added (line_r (answer_of answer) (result_unwrap_or answer 0)) page.old page.new }
@@ -36,7 +37,8 @@ fn put_rounds(page: &mut Page<u8>, answer: Result<usize, Refusal>)
     event_writer::ROUNDS.put(page, [answers::answer(&answer), answer.unwrap_or(0) as u64])
 }
 
-// Makes the call of an M line. Record and journal come apart, since the C interface lends them so.
+// Makes the call of an M line. Record and journal come apart here and below, as the service's calls take them; the measurement is made by hand, since its
+// type and the line's are both of other crates.
 fn submission(service: &mut Service, journal: &mut [u64], asked: Submission) -> Result<u64, Refusal>
     ensures { Calls service.old journal.old (call_of (Some (SubmissionLine asked))) service.new result journal.new }
 {

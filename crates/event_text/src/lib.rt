@@ -31,7 +31,8 @@ fn begins_event(byte: u8) -> bool
     byte == b'M' || byte == b'C' || byte == b'E'
 }
 
-// The text of an input from where its events begin: at the first line that begins with M, C or E, or at the input's end.
+// The text of an input from where its events begin: at the first line that begins with M, C or E, or at the input's end. It goes by `split_line`, since the
+// text that is left is what is asked for.
 fn events(input: &[u8]) -> &[u8]
     ensures { result.now ≡ events_text input.now }
 {

@@ -12,7 +12,7 @@ use lookup::{Asked, Lookup};
 use registration::Registration;
 use values::Measurement;
 
-// What changes of the record: the last stamp given, which is not the group's own, and the group's numbers. It stands so in the C interface.
+// What changes of the record: the last stamp given, which is not one of the group's numbers, and these. It stands so in the C interface.
 #[repr(C)]
 #[derive(Clone, Copy, Default)]
 pub struct State {
@@ -20,7 +20,7 @@ pub struct State {
     pub numbers: Numbers,
 }
 
-// The record of a service. Its journal is not in it: calls take the two apart, since the C interface lends them so.
+// The record of a service. Its journal is not in it, and what a call is given comes as numbers beside them both: the C interface has it so.
 #[repr(C)]
 #[derive(Clone, Copy, Default)]
 pub struct Service {
@@ -32,7 +32,7 @@ impl Service {
     // The greatest stamp and clock.
     pub const STAMP_MOST: u64 = group::STAMP_MOST;
 
-    // How many days before an evaluated one must not be cleared, if any day is.
+    // How many days before a day have to be kept for it to be evaluated, once any day is cleared.
     pub const DAYS_BEFORE: u64 = group::DAYS_BEFORE;
 
     // A record of zeros.

@@ -64,6 +64,7 @@ fn run<R: Read, W: Write>(reader: &mut R, writer: &mut W) -> io::Result<()>
     }
 }
 
+// Runs on what the host gives: its standard input and output.
 fn main(rt: HostRuntime) -> io::Result<()> {
     run(&mut rt.stdin(), &mut rt.stdout())
 }

@@ -1,4 +1,5 @@
-// The static library: the calls of a service, the text of a registration, and days, dates and changeover days, for C and Rust. Answers are records of numbers, and no call asks anything of its arguments.
+// The static library: the calls of a service, the text of a registration, and days, dates and changeover days, for C and Rust. Answers are records of
+// numbers, and no call asks anything of its arguments.
 #![tactic(auto)]
 
 ghost use Rattle.std.specs.Prelude.{◌≡◌};
@@ -13,7 +14,9 @@ use registration::Registration;
 use service::Service;
 use values::Measurement;
 
-// C has no Result and no Option, so in its records the number of an answer stands beside what it gives, with zeros where the call is refused.
+// C has no Result, no Option and no generic types, so that each answer is a record of its own, in which the answer's number stands beside what it gives,
+// with zeros where the call is refused; a date or a number of quarters is 0 where there is no such day. A record is made where its call is, and nowhere
+// else: a From for each of the seven would be longer.
 
 // The answer of `share_read`: the registration, zeros where it is refused.
 #[repr(C)]
