@@ -26,7 +26,7 @@ pub const FIXED: [usize; 3] = [19, 2, 2];
 pub const PAIR: [usize; 2] = [4, 6];
 
 // The bytes of a consumer's line up to its pairs.
-pub const FIXED_BYTES: usize = 24;
+pub const FIXED_BYTES: usize = 1 + FIXED[0] + FIXED[1] + FIXED[2];
 
 // The bytes of a pair.
-pub const PAIR_BYTES: usize = 10;
+pub const PAIR_BYTES: usize = PAIR[0] + PAIR[1];
