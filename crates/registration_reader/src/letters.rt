@@ -11,15 +11,6 @@ use answers::Refusal;
 use registration::{Pair, Registration};
 use registration_text::{CONSUMER, FIXED, FIXED_BYTES, GROUP, PAIR, PAIR_BYTES, PRODUCER};
 
-// The last status that a line may have, as its columns say it; a constant takes no call, so `as` widens the number.
-const STATUS_MOST: u64 = Registration::STATUS_MOST as u64;
-
-// The last iteration.
-const ITERATION_MOST: u64 = Registration::ITERATION_MOST as u64;
-
-// The most producers that a consumer may name.
-const SOURCES_MOST: u64 = Registration::SOURCES as u64;
-
 // Reads a G line: a registration with its counts, and no points yet.
 #[tactic(auto, using(answers::proofs::Refusals::refusals), unfolding(registration_text::specs::Reader::verdict_g))]
 pub fn read_group(line: &[u8]) -> Result<Registration, Refusal>
@@ -29,7 +20,7 @@ pub fn read_group(line: &[u8]) -> Result<Registration, Refusal>
     if !registration::point_counts_right(producers as usize, consumers as usize) {
         return Err(Refusal::CountOutside);
     }
-    if iteration > ITERATION_MOST {
+    if iteration > u64::from(Registration::ITERATION_MOST) {
         return Err(Refusal::StatusOrIterationAbove);
     }
     Ok(Registration {
@@ -62,7 +53,7 @@ pub fn read_producer(
     ensures stored { let numbers = line_in letter_d widths_d line.now in OnOk result (registration.new ≡ with_point registration.old producer (nth 0 numbers) (nth 1 numbers)) }
 {
     let [code, status] = PRODUCER.read(line).ok_or(Refusal::NotInColumns)?;
-    if status > STATUS_MOST {
+    if status > u64::from(Registration::STATUS_MOST) {
         return Err(Refusal::StatusOrIterationAbove);
     }
     if !registration::code_true(code) {
@@ -72,7 +63,8 @@ pub fn read_producer(
     Ok(())
 }
 
-// The numbers of an O line's fixed part: code, status, count.
+// The numbers of an O line's fixed part: code, status, count. What frames the line is judged in two parts, here its length so far and its letter, in
+// `read_rest` its end, and not by `lines::is_framed`: how long the line is, its count says.
 #[tactic(auto, unfolding(registration_text::specs::Reader::fixed_in))]
 fn read_fixed(line: &[u8]) -> Option<[u64; 3]>
     ensures { result ≡ fixed_in line.now }
@@ -140,12 +132,12 @@ pub fn read_consumer(
     ensures stored { let fixed = fixed_in line.now in OnOk result (registration.new ≡ with_consumer registration.old consumer fixed (rest_in (nth 2 fixed) line.now)) }
 {
     let [code, status, number] = read_fixed(line).ok_or(Refusal::NotInColumns)?;
-    if !(1..=SOURCES_MOST).contains(&number) {
+    if !(1..=Registration::SOURCES as u64).contains(&number) {
         return Err(Refusal::CountOutside);
     }
     let count = number as usize;
     let pairs = read_rest(line, count).ok_or(Refusal::NotInColumns)?;
-    if status > STATUS_MOST {
+    if status > u64::from(Registration::STATUS_MOST) {
         return Err(Refusal::StatusOrIterationAbove);
     }
     if !registration::code_true(code) {

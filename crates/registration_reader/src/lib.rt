@@ -28,8 +28,8 @@ fn judge(registration: &Registration, rest: &[u8]) -> Result<(), Refusal>
     Ok(())
 }
 
-// Reads a registration from its text. The lines of producers and of consumers have a loop each: one loop for both would take a closure that changes the
-// registration, and be longer than the two.
+// Reads a registration from its text. The lines of producers and of consumers have a loop each: one function for both would take the reader of a line, and
+// carry that reader's contract as its own, longer than the two loops.
 pub fn read(text: &[u8]) -> Result<Registration, Refusal>
     ensures { result ≡ read_text text.now }
 {
