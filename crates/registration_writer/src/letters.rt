@@ -7,16 +7,16 @@ ghost use Rattle.registration_text.specs.Writer.{lines_d, lines_o, text_of};
 
 use lists::Page;
 use registration::Registration;
-use registration_text::{CONSUMER, FIXED, GROUP, PAIR, PAIR_BYTES, PRODUCER};
+use registration_text::{CONSUMER, FIXED, FIXED_BYTES, GROUP, PAIR, PAIR_BYTES, PRODUCER};
 
 // The bytes of the line of the group.
-const GROUP_BYTES: usize = 12;
+const GROUP_BYTES: usize = 2 + GROUP.widths[0] + GROUP.widths[1] + GROUP.widths[2];
 
 // The bytes of a producer's line.
-const PRODUCER_BYTES: usize = 23;
+const PRODUCER_BYTES: usize = 2 + PRODUCER.widths[0] + PRODUCER.widths[1];
 
 // The bytes of a consumer's line without its pairs.
-const CONSUMER_BYTES: usize = 25;
+const CONSUMER_BYTES: usize = FIXED_BYTES + 1;
 
 // How many bytes the text of a registration takes.
 pub fn size(registration: &Registration) -> usize

@@ -9,7 +9,8 @@ use registration::Registration;
 
 mod letters;
 
-// Writes a registration's text to the front of a buffer, and gives the number of its bytes.
+// Writes a registration's text to the front of a buffer, and gives the number of its bytes, as the library's `Read::read` does: what the rest of the
+// buffer holds is promised too, which a slice of the text would leave open.
 pub fn write(registration: &Registration, out: &mut [u8]) -> Result<usize, Refusal>
     ensures { Wrote registration.now out.old out.new result }
 {
