@@ -34,7 +34,7 @@ kind '5d parameters that travel together: day, quarter, stamp' '^ *until: u64,'
 kind '5e records by value' '[(a-z]: (Registration|Service)[,)]'
 kind '6a a length beside an array or a slice' '(count|points|n|consumers|producers|size): usize'
 kind '6b parallel arrays' '^    pub [a-z]+: \[[a-z0-9]+; [0-9A-Z]+\],|(sources|keys|codes|statuses|counts): &\[u[0-9]+; [0-9]+\]'
-kind '7 function pointers, dyn, tables of functions' 'dyn |fn\(|: fn '
+kind '7 function pointers, dyn, tables of functions' 'dyn |\bfn\(|: fn '
 echo '## 8 answers in proofs'
 if [ -n "$at" ]; then count() { git grep -hE "$1" "$at" -- "$2"; }; else count() { git grep -hE "$1" -- "$2"; }; fi
 echo "8a answers: $(count '^pub [^ ]+ : goal\.' 'crates/*/proofs/*Answers.antt' | wc -l)"
