@@ -35,7 +35,7 @@ impl Service {
     // How many days before a day have to be kept for it to be evaluated, once any day is cleared.
     pub const DAYS_BEFORE: u64 = group::DAYS_BEFORE;
 
-    // A record of zeros.
+    // A record of zeros: beside the derived default, since it promises that these are the zeros of the definition.
     pub fn empty() -> Service
         ensures { result ≡ zero_service }
     {
