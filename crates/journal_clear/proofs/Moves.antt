@@ -1,16 +1,30 @@
 -- Entries moved to the front: one turn of the moving. Assumes nothing.
-use Prim.Native.Nat.{ℕ, ◌+◌, ◌*◌, ◌≤◌, ◌<◌}
-use mathlib.Core.Path.{◌≡◌, sym, ◌∙◌}
+use Prim.Native.Nat.{ℕ, zero, suc, ◌+◌, ◌*◌, ◌≤◌, ◌<◌}
+use mathlib.Core.Path.{◌≡◌, refl, sym, ◌∙◌}
 use mathlib.Core.Bool.{true, false}
-use mathlib.Core.List.{List, ◌++◌, append_assoc, append-nil}
+use mathlib.Core.List.{List, [], ◌∷◌, ◌++◌, append_assoc, append-nil}
 use native.Mathlib.Omega.{arith}
-use lib.ListN.{length, take}
+use lib.ListN.{length, take, get_or}
+use Rattle.std.specs.Simd.{first_chunks}
 use Rattle.lists.specs.Place.{placed}
 use Rattle.lists.proofs.PlaceLaws.{take_placed, drop_placed}
 use Rattle.lists.specs.Those.{those}
-use Rattle.journal.specs.Stored.{entries, entry_at, numbers, flat}
+use Rattle.journal.specs.Stored.{entries, entry_at, entry_in, numbers, flat}
 use Rattle.journal.proofs.Stored.{rest, rest_step, rest_end}
 use Rattle.journal_clear.specs.Marks.{is_left, Compacted}
+
+-- the entry of the array number i that the numbers are read as
+pub chunk_entry : (n i : ℕ) (j : List ℕ) → i < n → 3 * n ≤ length j → entry_in (get_or (first_chunks 3 n j) i []) ≡ entry_at j i
+chunk_entry zero i j l h = absurd (omega arith)
+chunk_entry (suc n) i [] l h = absurd (omega arith)
+chunk_entry (suc n) i (a ∷ []) l h = absurd (omega arith)
+chunk_entry (suc n) i (a ∷ b ∷ []) l h = absurd (omega arith)
+chunk_entry (suc n) zero (a ∷ b ∷ c ∷ j) l h = refl
+chunk_entry (suc n) (suc i) (a ∷ b ∷ c ∷ j) l h =
+    let first : 3 * suc i ≡ suc (suc (suc (3 * i))) = omega arith in
+    let second : 3 * suc i + 1 ≡ suc (suc (suc (3 * i + 1))) = omega arith in
+    let third : 3 * suc i + 2 ≡ suc (suc (suc (3 * i + 2))) = omega arith in
+    rw (second, third, first) (chunk_entry n i j (omega arith) (omega arith))
 
 module _ (K count : ℕ) where
   -- the entries at the front, and those that have still to move

@@ -1,8 +1,9 @@
-// The clear of a journal, in place. Window by window of keys, each entry up to the stamp that is not the one shown for its place loses its own
-// stamp, which marks it in the journal itself, since there is no heap for marks; then the entries that are left move to the front. A pass goes from the last entry back: since the newest is shown, the first entry met
-// of a place is the one shown, and those met after it are superseded. Which keys were seen stands in a table of bits. A key is a place by its
-// quarter hour first and its point second, and a quarter hour has as many keys as the group has points: entries of some months lie in a window
-// or two, however many points there are, and the fewer there are the longer is the time that a window holds.
+// The clear of a journal, in place. Window by window of keys, each entry up to the stamp that is not the one shown for its place loses its own stamp,
+// which marks it in the journal itself, since there is no heap for marks; then the entries that are left move to the front. A pass goes from the last
+// entry back: since the newest is shown, the first entry met of a place is the one shown, and those met after it are superseded. Which keys were seen
+// stands in a table of bits. A key is a place by its quarter hour first and its point second, and a quarter hour has as many keys as the group has
+// points: entries of some months lie in a window or two, however many points there are, and the fewer there are the longer is the time that a window
+// holds.
 #![tactic(auto)]
 
 ghost use Rattle.std.specs.Prelude.{◌≡◌, ◌+◌, ◌*◌, ◌/◌, ◌<◌, ◌≤◌, length, cond, Some};
@@ -17,7 +18,7 @@ use journal::{ENTRY, Entry, POINT_PLACES};
 // How many keys a window has.
 const WINDOW: u64 = 1048576;
 
-// How many words the table of bits has: a bit for each key of a window.
+// How many words the table of bits has: a bit for each key of a window. Bits by hand, since the memory is fixed and there is no heap for a set.
 const WORDS: usize = WINDOW as usize / 64;
 
 // What a pass marks: entries of a group of so many points, up to a stamp, in the window of the keys from `lo` on.
@@ -48,13 +49,10 @@ fn see(seen: &mut [u64], k: usize)
 fn lesser(next: Option<u64>, key: u64) -> Option<u64>
     ensures { result ≡ cond (is_less key next) (Some key) next }
 {
-    match next {
-        Some(least) if least <= key => next,
-        _ => Some(key),
-    }
+    Some(next.map_or(key, |least| least.min(key)))
 }
 
-// The numbers stay a flat slice below: of arrays that `as_chunks_mut` lends out nothing is known of what the slice ends as.
+// What is written below is a flat slice: of arrays that `as_chunks_mut` lends out nothing is known of what the slice ends as.
 
 impl Window {
     // One entry of a pass, by its number. Up to the stamp and in the window, it loses its stamp where its key was seen, and its key is seen where it was
@@ -124,8 +122,7 @@ fn compact(numbers: &mut [u64], day: u64) -> usize
 {
     let mut moved = 0;
     for i in 0..numbers.len() / ENTRY {
-        let at = ENTRY * i;
-        let entry = Entry::from([numbers[at], numbers[at + 1], numbers[at + 2]]);
+        let entry = Entry::from(numbers.as_chunks::<ENTRY>().0[i]);
         if left(entry, day) {
             journal::put(numbers, moved, entry);
             moved += 1;
