@@ -14,9 +14,9 @@ use std::io::Write;
 const WIDTH: usize = 6;
 
 // How many bytes the lines of all entries have: the column's and LF for each.
-const TEXT_BYTES: usize = 1064;
+const TEXT_BYTES: usize = (WIDTH + 1) * calendar::CHANGEOVERS.len();
 
-// Puts the line of an entry on a page: in `columns`' column and not by a `Display`, since the definition of a line is that column, and its law reads it back.
+// Puts the line of an entry on a page, not by `Display`: this column is proved to be read back, and a format would need that law once more.
 #[tactic(auto, using(columns::proofs::Laws::length_column))]
 fn put_line(page: &mut Page<u8>, day: u64)
     requires { Room line_bytes page.old }
@@ -46,6 +46,7 @@ fn print_table<W: Write>(writer: &mut W) -> io::Result<()>
     writer.write_all(&out)
 }
 
+// The program: it writes the table to standard output, and ends with the error of a write that failed.
 fn main(rt: HostRuntime) -> io::Result<()> {
     print_table(&mut rt.stdout())
 }
