@@ -39,11 +39,17 @@ pub enum Event {
     Evaluation(Evaluation),
 }
 
-// The bytes of an M line between its letter and its LF.
-const SIZE_M: usize = 55;
-
-// An M line's clock, code, date and quarter.
+// The widths of an M line's clock, code, date and quarter.
 const WIDTHS_M: [usize; 4] = [13, 19, 9, 4];
+
+// The width of its value, the last column.
+const WIDTH_OF_VALUE: usize = 10;
+
+// Where the value's column begins, after the letter and the others.
+const VALUE_START: usize = 1 + WIDTHS_M[0] + WIDTHS_M[1] + WIDTHS_M[2] + WIDTHS_M[3];
+
+// Where it ends: the bytes of an M line before its LF.
+const VALUE_END: usize = VALUE_START + WIDTH_OF_VALUE;
 
 // A C line's date and stamp.
 const CLEAR: Format<2> = Format {
@@ -62,11 +68,11 @@ const EVALUATION: Format<3> = Format {
 fn read_submission(line: &[u8]) -> Option<Event>
     ensures { result ≡ submission_in line.now }
 {
-    if !lines::is_framed(line, b'M', SIZE_M) {
+    if !lines::is_framed(line, b'M', VALUE_END - 1) {
         return None;
     }
     let [clock, code, date, quarter] = lines::read_columns(&line[1..], &WIDTHS_M)?;
-    let value = columns::read_signed(&line[46..56])?;
+    let value = columns::read_signed(&line[VALUE_START..VALUE_END])?;
     Some(Event::Submission(Submission {
         clock,
         code,
