@@ -14,7 +14,7 @@ use lists::Page;
 use registration::Registration;
 
 // How many bytes an A line takes.
-pub const ANSWER_BYTES: usize = 19;
+pub const ANSWER_BYTES: usize = 2 + ANSWER.widths[0] + ANSWER.widths[1];
 
 // A: the answer, and the stamp or the dropped count.
 pub const ANSWER: Format<2> = Format {
