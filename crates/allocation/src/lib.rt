@@ -88,10 +88,8 @@ pub fn allocate(registration: &Registration, magnitudes: &[u64; 64]) -> Allocate
         left: *magnitudes,
         rounds,
     };
-    // a copy, from which the rounds read faster than from what is lent
-    let group = *registration;
     for _ in 0..rounds {
-        allocated.make_round(&group);
+        allocated.make_round(registration);
     }
     allocated
 }
