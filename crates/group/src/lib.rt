@@ -25,8 +25,8 @@ use values::Measurement;
 // The greatest stamp and clock.
 pub const STAMP_MOST: u64 = 999999999999;
 
-// How many days before an evaluated one must not be cleared, if any day is.
-pub const DAYS_BEFORE: u64 = 28;
+// How many days before an evaluated one must still be kept, once days have been cleared: those of the earlier weeks.
+pub const DAYS_BEFORE: u64 = lookup::EARLIER_DAYS;
 
 // What is kept of a group beside its registration and its journal: kept stamp P, kept day K, and how many entries the journal has.
 #[repr(C)]
@@ -192,7 +192,7 @@ impl<'a> Group<'a> {
         Ok(())
     }
 
-    // The tests of an evaluation, whose result is put into a list of so many numbers.
+    // The tests of an evaluation, whose result is put into the list that is lent.
     #[tactic(auto, using(crate::proofs::Tests::tests, crate::proofs::Tests::kept_day_most, crate::proofs::Tests::few_of), unfolding(crate::specs::Refusals::evaluation_verdict))]
     pub fn evaluation_verdict(&self, asked: Asked, lent: &[u64]) -> Result<(), Refusal>
         ensures { result ≡ evaluation_verdict self.now.last (held self.now) asked.day asked.quarter asked.until lent.now }

@@ -12,7 +12,9 @@ use journal::{Entry, POINT_PLACES};
 
 mod weeks;
 
-// The quarter hour that is evaluated, and the stamp as of which: what a caller asks for, so that whether there is such a quarter hour is said beside it.
+pub use weeks::EARLIER_DAYS;
+
+// The quarter hour that is evaluated, and the stamp as of which. A caller may ask for a quarter hour that does not exist: a `Lookup` asks that it exists.
 #[derive(Clone, Copy)]
 pub struct Asked {
     pub day: u64,
@@ -125,11 +127,12 @@ impl Lookup<'_> {
         ensures { AllOf (entries_in self.now.entries.now) self.now.asked statuses.now result }
     {
         let own = self.own_readings();
-        let none = PointValue {
+        let filler = PointValue {
             magnitude: 0,
             origin: Origin::ZeroForLack,
         };
-        let mut values = [none; 64];
+        let mut values = [filler; 64];
+        // by number: a point's status, reading and value are found by it
         for (point, status) in statuses.iter().enumerate() {
             values[point] = self.look_up(point, *status, own[point]);
         }

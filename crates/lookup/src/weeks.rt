@@ -25,7 +25,7 @@ const WEEK_DAYS: u64 = 7;
 const WEEKS: u64 = 4;
 
 // How many days before a day the earliest of them lies.
-const EARLIER_DAYS: u64 = WEEKS * WEEK_DAYS;
+pub const EARLIER_DAYS: u64 = WEEKS * WEEK_DAYS;
 
 // How many places a point has on so many days and one more: they are the near ones.
 const NEAR_PLACES: u64 = 100 * (EARLIER_DAYS + 1);
