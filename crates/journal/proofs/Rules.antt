@@ -1,14 +1,12 @@
 -- Whether entries are right, told test by test: of one entry, and of the entries from the first on. Assumes nothing.
 use Prim.Native.Nat.{ℕ, ◌+◌, ◌*◌, ◌/◌, ◌%◌, ◌≤◌, ◌<◌}
 use native.Mathlib.Omega.{arith}
-use mathlib.Core.Path.{◌≡◌, refl, sym, ◌∙◌}
+use mathlib.Core.Path.{◌≡◌, refl}
 use mathlib.Core.Bool.{Bool, true, false, ◌&&◌}
 use mathlib.Core.List.{List, [], ◌∷◌}
 use lib.Dec.{leb, ltb}
 use borrow.Author.Tests.{ltb-true, ltb-false, leb-true, leb-false, lt-ltb, le-ltb, le-leb, lt-leb}
 use Rattle.lists.proofs.Cases.{by_test}
-use Rattle.calendar.specs.Dates.{last_day}
-use Rattle.calendar.proofs.Laws.{exists_early}
 use Rattle.std.proofs.Common.{length, get_or, drop, drop-cons, add-one}
 use Rattle.std.proofs.lemmas.List.{drop_all}
 use Rattle.calendar.specs.Quarters.{quarter_exists}
@@ -58,10 +56,6 @@ unfolding entry_right
 entry_tests points K e =
     rw (below_end points e.place, from_first K e.place, slot_quarters e.place)
     (third_last (ltb (point_in e.place) points) (leb K (day_in e.place)) (quarter_exists (day_in e.place) (quarter_in e.place)) (stored_right e.stored))
-
--- every day has the first 92 quarters
-pub early_quarter : (slot : ℕ) → slot < point_places → slot % 100 + 1 ≤ 92 → quarter_exists (slot / 100) (slot % 100 + 1) ≡ true
-early_quarter slot h l = sym (exists_early (slot / 100) (slot % 100 + 1) (omega arith) l) ∙ le-leb (slot / 100) last_day (omega arith)
 
 -- ---- the entries from number i on
 module _ (points K last before : ℕ) (xs : List (List ℕ)) where

@@ -90,18 +90,16 @@ pub fn put(journal: &mut [u64], i: usize, entry: Entry)
     journal[at..at + ENTRY].copy_from_slice(&numbers);
 }
 
-// Whether a day has a quarter, both as one number, day × 100 + quarter − 1. Every day has the first 92, so only for later ones the calendar is asked.
-#[tactic(auto, using(crate::proofs::Rules::early_quarter))]
+// Whether a day has a quarter, both as one number, day × 100 + quarter − 1.
 fn quarter_right(slot: u64) -> bool
     requires { slot < point_places }
     ensures { result ≡ quarter_exists (slot / 100) (slot % 100 + 1) }
 {
-    let quarter = slot % 100 + 1;
-    quarter <= 92 || calendar::exists(slot / 100, quarter)
+    calendar::exists(slot / 100, slot % 100 + 1)
 }
 
 // Whether an entry is right, but for its stamp: its point, by the first place that is no point's, its day, by the first place of the kept day, its
-// magnitude, and last its quarter, for which the calendar may be asked.
+// magnitude, and last its quarter, for which the calendar is asked.
 fn entry_right(place: u64, stored: u64, end: u64, first: u64) -> bool
     ensures { result ≡ (ltb place end && leb first (place % point_places) && stored_right stored && quarter_exists (place % point_places / 100) (place % point_places % 100 + 1)) }
 {
