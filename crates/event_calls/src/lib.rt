@@ -37,8 +37,8 @@ fn put_rounds(page: &mut Page<u8>, answer: Result<usize, Refusal>)
     event_writer::ROUNDS.put(page, [answers::answer(&answer), answer.unwrap_or(0) as u64])
 }
 
-// Makes the call of an M line. Record and journal come apart here and below, as the service's calls take them; the measurement is made by hand, since its
-// type and the line's are both of other crates.
+// Makes the call of an M line. Record and journal come apart here and below, as the service's calls take them; the measurement, and below what an evaluation
+// asks, are made by hand, since no From or TryFrom can stand here: both types are of other crates.
 fn submission(service: &mut Service, journal: &mut [u64], asked: Submission) -> Result<u64, Refusal>
     ensures { Calls service.old journal.old (call_of (Some (SubmissionLine asked))) service.new result journal.new }
 {
