@@ -54,7 +54,8 @@ fn write_column(out: &mut [u8], minus: bool, value: u64)
     }
 }
 
-// Fills a column with a number. This and `write_signed` are one line each, so that a trait with two impls would be longer.
+// Fills a column with a number. This and `write_signed` are one line each, so that a trait with two impls would be longer; so are `read_number` and what
+// `read_signed` does beside its sign.
 pub fn write_number(out: &mut [u8], value: u64)
     ensures { out.new ≡ column_of false (length out.old) value }
 {
@@ -101,6 +102,7 @@ fn read_digits(column: &[u8], minus: bool) -> Option<u64>
         return None;
     }
     let value = value_of(column);
+    // as wide as any column, since there is no heap
     let mut places = [0; WIDEST];
     write_column(&mut places[..column.len()], minus, value);
     let written = &places[..column.len()] == column;

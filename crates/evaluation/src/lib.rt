@@ -103,7 +103,7 @@ fn put_parts(
     put_origins(&mut page, values);
 }
 
-// The magnitudes of the points' values.
+// The magnitudes of the points' values: of all 64, as they are looked up.
 fn magnitudes(values: [PointValue; 64]) -> [u64; 64]
     ensures { (point : ℕ) → point < 64 → get_or result point 0 ≡ (value_of_point values point).magnitude }
 {

@@ -38,7 +38,7 @@ fn put_rounds(page: &mut Page<u8>, answer: Result<usize, Refusal>)
 }
 
 // Makes the call of an M line. Record and journal come apart here and below, as the service's calls take them; the measurement, and below what an evaluation
-// asks, are made by hand, since no From or TryFrom can stand here: both types are of other crates.
+// asks, are made by hand: both types are of other crates, and in `event_reader` a TryFrom would make the reader of lines know of calls.
 fn submission(service: &mut Service, journal: &mut [u64], asked: Submission) -> Result<u64, Refusal>
     ensures { Calls service.old journal.old (call_of (Some (SubmissionLine asked))) service.new result journal.new }
 {

@@ -45,7 +45,7 @@ const WIDTHS_M: [usize; 4] = [13, 19, 9, 4];
 // The width of its value, the last column.
 const WIDTH_OF_VALUE: usize = 10;
 
-// Where the value's column begins, after the letter and the others.
+// Where the value's column begins, after the letter and the others; a constant takes no call, so that the widths are added here.
 const VALUE_START: usize = 1 + WIDTHS_M[0] + WIDTHS_M[1] + WIDTHS_M[2] + WIDTHS_M[3];
 
 // Where it ends: the bytes of an M line before its LF.

@@ -13,7 +13,7 @@ use lines::Format;
 use lists::Page;
 use registration::Registration;
 
-// How many bytes an A line takes.
+// How many bytes an A line takes; a constant takes no call, so that the widths are added here.
 pub const ANSWER_BYTES: usize = 2 + ANSWER.widths[0] + ANSWER.widths[1];
 
 // A: the answer, and the stamp or the dropped count.

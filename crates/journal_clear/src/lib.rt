@@ -83,8 +83,8 @@ impl Window {
     }
 
     // Marks the superseded entries whose keys are in the window: of a place, all up to the stamp but the first one met from the last entry back. Returns
-    // the least key beyond the window, if there is one. A loop and not a fold: of a closure that changes the journal and the table, which it captures, a
-    // proof knows nothing.
+    // the least key beyond the window, if there is one. As a fold its proof did not close: of a closure that changes the journal and the table, which it
+    // captures, nothing is known.
     fn pass(self, numbers: &mut [u64]) -> Option<u64>
         requires { self.points ≤ 64 }
         ensures { Passed self.points self.lo self.stamp (length numbers.old / 3) numbers.old numbers.new result }

@@ -75,7 +75,7 @@ fn take_in(own: &mut [Option<u64>], entry: Entry, slot: u64, until: u64)
 }
 
 impl Lookup<'_> {
-    // What each point's own quarter hour shows, if it has a reading, in one pass.
+    // What each point's own quarter hour shows, if it has a reading, in one pass. An array of 64, since there is no heap.
     fn own_readings(&self) -> [Option<u64>; 64]
         ensures { OwnOf (entries_in self.now.entries.now) self.now.asked result }
     {

@@ -92,7 +92,8 @@ fn read_pairs(bytes: &[u8], count: usize) -> Option<[Pair; 5]>
     Some(pairs)
 }
 
-// The pairs of an O line's rest, after the fixed part: so many of them, and nothing else before the line's end.
+// The pairs of an O line's rest, after the fixed part: so many of them, with the count beside them as `read_pairs` has it, and nothing else before the
+// line's end.
 #[tactic(auto, using(lines::proofs::Parts::tail_part), unfolding(registration_text::specs::Reader::rest_in))]
 fn read_rest(line: &[u8], count: usize) -> Option<[Pair; 5]>
     requires { count ≤ 5 }
@@ -137,6 +138,7 @@ pub fn read_consumer(
     }
     let count = number as usize;
     let pairs = read_rest(line, count).ok_or(Refusal::NotInColumns)?;
+    // a producer's two tests, where this line's order of refusals has them: as a function they would be longer
     if status > u64::from(Registration::STATUS_MOST) {
         return Err(Refusal::StatusOrIterationAbove);
     }

@@ -29,7 +29,7 @@ fn judge(registration: &Registration, rest: &[u8]) -> Result<(), Refusal>
 }
 
 // Reads a registration from its text. The lines of producers and of consumers have a loop each: one function for both would take the reader of a line, and
-// carry that reader's contract as its own, longer than the two loops.
+// carry that reader's contract as its own, longer than the two loops. Each goes by number, since a line's place in the registration is its number.
 pub fn read(text: &[u8]) -> Result<Registration, Refusal>
     ensures { result ≡ read_text text.now }
 {

@@ -25,7 +25,7 @@ pub const FIXED: [usize; 3] = [19, 2, 2];
 // The widths of each pair after the fixed part: a producer's number and the key.
 pub const PAIR: [usize; 2] = [4, 6];
 
-// The bytes of a consumer's line up to its pairs.
+// The bytes of a consumer's line up to its pairs. A constant takes no call, so that its widths are added here, and not by `total` of `lines`.
 pub const FIXED_BYTES: usize = 1 + FIXED[0] + FIXED[1] + FIXED[2];
 
 // The bytes of a pair.

@@ -9,7 +9,7 @@ use lists::Page;
 use registration::Registration;
 use registration_text::{CONSUMER, FIXED, FIXED_BYTES, GROUP, PAIR, PAIR_BYTES, PRODUCER};
 
-// The bytes of the line of the group.
+// The bytes of the line of the group; a constant takes no call, so that the widths are added here.
 const GROUP_BYTES: usize = 2 + GROUP.widths[0] + GROUP.widths[1] + GROUP.widths[2];
 
 // The bytes of a producer's line.

@@ -20,7 +20,8 @@ pub struct State {
     pub numbers: Numbers,
 }
 
-// The record of a service. Its journal is not in it, and what a call is given comes as numbers beside them both: the C interface has it so.
+// The record of a service. Its journal is not in it; the clock of a submission stands beside its measurement, and a clear's day and stamp are two numbers:
+// the C interface has it so.
 #[repr(C)]
 #[derive(Clone, Copy, Default)]
 pub struct Service {
@@ -42,7 +43,8 @@ impl Service {
         Service::default()
     }
 
-    // A service made from a registration alone: no entries, and all stamps and days 0. A damaged registration is refused.
+    // A service made from a registration alone: no entries, and all stamps and days 0. A damaged registration is refused. It takes it by value, since the
+    // record keeps it.
     pub fn fresh(registration: Registration) -> Result<Service, Refusal>
         ensures { result ≡ fresh_of registration }
     {

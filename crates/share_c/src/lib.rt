@@ -15,8 +15,9 @@ use service::Service;
 use values::Measurement;
 
 // C has no Result, no Option and no generic types, so that each answer is a record of its own, in which the answer's number stands beside what it gives,
-// with zeros where the call is refused; a date or a number of quarters is 0 where there is no such day. A record is made where its call is, and nowhere
-// else: a From for each of the seven would be longer.
+// with zeros where the call is refused; a date or a number of quarters is 0 where there is no such day. Six are made where their call is, and `Dated`
+// in `day_answer` for two calls: a From for each would be longer. Records come by value where a call alters none, and day, quarter and stamp as numbers, as
+// share.h has them.
 
 // The answer of `share_read`: the registration, zeros where it is refused.
 #[repr(C)]
