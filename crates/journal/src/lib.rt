@@ -79,7 +79,8 @@ pub fn shown(entries: &[[u64; 3]], place: u64, until: u64) -> Option<Entry>
         .map(|numbers| Entry::from(*numbers))
 }
 
-// Stores entry number i, by its number over a flat list. Over arrays of three its proof did not close: of those that `as_chunks_mut` lends out nothing is known of what the slice ends as.
+// Stores entry number i, by its number over a flat list. Over arrays of three its proof did not close: of those that `as_chunks_mut` lends out nothing is
+// known of what the slice ends as.
 #[tactic(auto, using(std::proofs::lemmas::Slice::overwrites), unfolding(lists::specs::Place::placed))]
 pub fn put(journal: &mut [u64], i: usize, entry: Entry)
     requires { 3 * i + 3 ≤ length journal.old }
