@@ -1,7 +1,7 @@
 #!/usr/bin/env bash
 # Lists the public functions without a must-fail edit whose refusal begins at them:  bash tests/edits.sh LOG   or   rt must-fail CRATE | bash tests/edits.sh
 # It reads what `rt ci` or `rt must-fail` said of the edits, and tries none itself. A refusal begins at a function where the place that is
-# named first lies in the function's folder of proofs/ or in its contract or body. Of crates of whose edits nothing was said it tells nothing but
+# named first lies in the function's folder of proofs/ or in its attributes, contract or body. Of crates of whose edits nothing was said it tells nothing but
 # their number. It is no test: the exit status is 0.
 set -u
 log=$(realpath -- "${1:-/dev/stdin}") || exit 1
@@ -17,18 +17,19 @@ SAID = re.compile(r'rt: must-fail (\w+)/\w+\.edit: refused, as it must be: (?:no
 
 
 def functions(crate):
-    """The functions of a crate's code: file, line, whether public, and the folder of its proofs, which is its path."""
+    """The functions of a crate's code: file, first line with its attributes, whether public, and the folder of its proofs, which is its path."""
     for file in sorted((crate / "src").rglob("*.rt")):
         place = file.relative_to(crate)
         module = [part for part in place.with_suffix("").parts[1:] if part not in ("lib", "main")]
-        inside = []
+        inside, first = [], None
         for number, line in enumerate(file.read_text().splitlines(), 1):
             if found := re.match(r"impl(?:<[^>]*>)? (?:\S+ for )?(\w+)", line):
                 inside = [found[1]]
             elif line == "}":
                 inside = []
             elif found := HEAD.match(line):
-                yield str(place), number, bool(found[1]), "/".join(module + inside + [found[2]])
+                yield str(place), first or number, bool(found[1]), "/".join(module + inside + [found[2]])
+            first = (first or number) if line.lstrip().startswith("#[") else None
 
 
 path = sys.argv[1]
