@@ -16,6 +16,7 @@ use Rattle.answers.specs.Order.{refuse◌if◌else◌}
 use Rattle.calendar.specs.Civil.{year_length, month_length, days_before_year, days_before_month, last_up_to}
 use Rattle.calendar.specs.Dates.{year_of}
 use Rattle.calendar.specs.Quarters.{last_sunday, quarters_of, quarter_exists}
+use Rattle.wall_clock.specs.Starts.{start_after, first_up_to, first_at}
 use Rattle.registration.specs.declared.Registration.{Registration}
 use Rattle.registration.specs.Code.{is_code, weighted}
 use Rattle.registration.specs.Rules.{pairs_right}
@@ -345,5 +346,5 @@ list_seen = seen_of list (replicate 9 0) (map (λ line. line.call) list_lines)
 
 -- every row is right
 cases : agree list_lines list_seen && right (listed ++ submissions ++ clears ++ evaluations ++ damages) ≡ true
-unfolding agree follow right list_lines listed submissions clears evaluations damages group same joined every sum_below differ placed year_length month_length days_before_year days_before_month last_up_to year_of last_sunday quarters_of quarter_exists refuse◌if◌else◌ is_code weighted pairs_right is_damaged empty left_at rounds_of round_of after_rounds allocation_of sum_of nearest weaker shown keep entries flat written entry_right entries_right earlier existing looked_up result_from evaluation_of index_of damaged submission_verdict clear_verdict earliest evaluation_verdict submitted cleared evaluated step call_on run
+unfolding agree follow right list_lines listed submissions clears evaluations damages group same joined every sum_below differ placed year_length month_length days_before_year days_before_month last_up_to year_of last_sunday quarters_of quarter_exists refuse◌if◌else◌ is_code weighted pairs_right is_damaged empty left_at rounds_of round_of after_rounds allocation_of sum_of nearest weaker shown keep entries flat written entry_right entries_right start_after first_up_to first_at earlier existing looked_up result_from evaluation_of index_of damaged submission_verdict clear_verdict earliest evaluation_verdict submitted cleared evaluated step call_on run
 cases = refl

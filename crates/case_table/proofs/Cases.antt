@@ -11,6 +11,7 @@ use Rattle.columns.specs.Column.{column_of, lead_of, value_from, number_in, sign
 use Rattle.columns.specs.Fields.{numbers_in, columns_of}
 use Rattle.lines.specs.Line.{first_line, after_line}
 use Rattle.lines.specs.Lines.{line_in}
+use Rattle.wall_clock.specs.Starts.{start_after, first_up_to, first_at}
 use Rattle.registration.specs.Code.{is_code, weighted}
 use Rattle.registration.specs.Rules.{pairs_right}
 use Rattle.registration.specs.Damage.{is_damaged, empty}
@@ -38,5 +39,5 @@ use Rattle.event_text.specs.Share.{lines_of, registration_in, events_in, answers
 use Rattle.case_table.specs.Table.{bytes, text, TableHolds}
 
 pub table_holds : TableHolds
-unfolding bytes text refuse◌if◌else◌ every sum_below differ joined placed year_length month_length days_before_year days_before_month last_up_to day_of year_of last_sunday quarters_of quarter_exists column_of lead_of value_from number_in signed_in numbers_in columns_of first_line after_line line_in is_code weighted pairs_right is_damaged empty widths_of_pairs read_text read_g read_d read_o fixed_in rest_in verdict_g verdict_d verdict_o verdict_of_all with_point with_count with_pair with_pairs index_of weaker shown keep entries flat written entry_right entries_right rounds_of left_at round_of after_rounds allocation_of sum_of nearest earlier existing looked_up result_from evaluation_of damaged submission_verdict clear_verdict earliest evaluation_verdict submitted cleared evaluated step call_on submission_in clear_in evaluation_in event_in lines_of_consumer lines_s lines_of_points lines_of_result reply_to lines_of registration_in events_in answers_to opening_of share
+unfolding bytes text refuse◌if◌else◌ every sum_below differ joined placed year_length month_length days_before_year days_before_month last_up_to day_of year_of last_sunday quarters_of quarter_exists column_of lead_of value_from number_in signed_in numbers_in columns_of first_line after_line line_in is_code weighted pairs_right is_damaged empty widths_of_pairs read_text read_g read_d read_o fixed_in rest_in verdict_g verdict_d verdict_o verdict_of_all with_point with_count with_pair with_pairs index_of weaker shown keep entries flat written entry_right entries_right rounds_of left_at round_of after_rounds allocation_of sum_of nearest start_after first_up_to first_at earlier existing looked_up result_from evaluation_of damaged submission_verdict clear_verdict earliest evaluation_verdict submitted cleared evaluated step call_on submission_in clear_in evaluation_in event_in lines_of_consumer lines_s lines_of_points lines_of_result reply_to lines_of registration_in events_in answers_to opening_of share
 table_holds = refl

@@ -686,6 +686,135 @@ origin_rows =
     "W   7 6" ∷ [])
     ∷ []
 
+-- ---- the same time of day by the wall clock
+
+-- a producer and a bakery
+abbrev pub bakery_group : List String
+bakery_group =
+    "G   1   1 0" ∷
+    "D 859182400220162071 0" ∷
+    "O 859182400220162088 0 1   1 10000" ∷ []
+
+-- what the bakery withdrew is missing on a Sunday on which clocks change, or four weeks after one; it is the mean of what it withdrew in earlier weeks when the
+-- clock showed the same
+abbrev pub wall_clock_rows : List Row
+wall_clock_rows =
+    row "the bakery at 05:00 on 31 March 2024, quarter 17: a week before 05:00 was quarter 21, and quarter 17 was 04:00; a correction does not alter the result as of the stamp before it"
+    (bakery_group ++
+    ("M         1000 859182400220162088 20240324  17       -40" ∷
+    "M         1000 859182400220162088 20240324  21      -300" ∷
+    "M         1000 859182400220162071 20240331  17      1000" ∷
+    "E 20240331  17         1002" ∷
+    "M         1000 859182400220162088 20240324  21      -360" ∷
+    "E 20240331  17         1003" ∷
+    "E 20240331  17         1002" ∷ []))
+    ("A   0         1000" ∷
+    "A   0         1001" ∷
+    "A   0         1002" ∷
+    "R   0 1" ∷
+    "S   1   1       300" ∷
+    "U   1         0" ∷
+    "V   1       700" ∷
+    "W   1 0" ∷
+    "W   2 1" ∷
+    "A   0         1003" ∷
+    "R   0 1" ∷
+    "S   1   1       360" ∷
+    "U   1         0" ∷
+    "V   1       640" ∷
+    "W   1 0" ∷
+    "W   2 1" ∷
+    "R   0 1" ∷
+    "S   1   1       300" ∷
+    "U   1         0" ∷
+    "V   1       700" ∷
+    "W   1 0" ∷
+    "W   2 1" ∷ [])
+    ∷
+    row "the bakery at 05:00 on 27 October 2024, quarter 25: a week before 05:00 was quarter 21, and quarter 25 was 06:00"
+    (bakery_group ++
+    ("M         1000 859182400220162088 20241020  21      -300" ∷
+    "M         1000 859182400220162088 20241020  25       -40" ∷
+    "M         1000 859182400220162071 20241027  25      1000" ∷
+    "E 20241027  25         1002" ∷ []))
+    ("A   0         1000" ∷
+    "A   0         1001" ∷
+    "A   0         1002" ∷
+    "R   0 1" ∷
+    "S   1   1       300" ∷
+    "U   1         0" ∷
+    "V   1       700" ∷
+    "W   1 0" ∷
+    "W   2 1" ∷ [])
+    ∷
+    row "02:15 for the first and the second time on 27 October 2024, quarters 10 and 14: a week before 02:15 was quarter 10, and quarter 14 was 03:15"
+    (bakery_group ++
+    ("M         1000 859182400220162088 20241020  10      -120" ∷
+    "M         1000 859182400220162088 20241020  14       -90" ∷
+    "E 20241027  10         1001" ∷
+    "E 20241027  14         1001" ∷ []))
+    ("A   0         1000" ∷
+    "A   0         1001" ∷
+    "R   0 1" ∷
+    "S   1   1         0" ∷
+    "U   1       120" ∷
+    "V   1         0" ∷
+    "W   1 6" ∷
+    "W   2 1" ∷
+    "R   0 1" ∷
+    "S   1   1         0" ∷
+    "U   1       120" ∷
+    "V   1         0" ∷
+    "W   1 6" ∷
+    "W   2 1" ∷ [])
+    ∷
+    row "28 April 2024, four weeks after 02:00 to 02:45 were missing: quarter 9, 02:00, has one week with a reading, and quarter 13, 03:00, that of quarter 9 on 31 March"
+    (bakery_group ++
+    ("M         1000 859182400220162088 20240331   9       -70" ∷
+    "M         1000 859182400220162088 20240421   9       -50" ∷
+    "E 20240428   9         1001" ∷
+    "E 20240428  13         1001" ∷ []))
+    ("A   0         1000" ∷
+    "A   0         1001" ∷
+    "R   0 1" ∷
+    "S   1   1         0" ∷
+    "U   1        50" ∷
+    "V   1         0" ∷
+    "W   1 6" ∷
+    "W   2 1" ∷
+    "R   0 1" ∷
+    "S   1   1         0" ∷
+    "U   1        70" ∷
+    "V   1         0" ∷
+    "W   1 6" ∷
+    "W   2 1" ∷ [])
+    ∷
+    row "24 November 2024, four weeks after 02:00 to 02:45 came twice: quarter 10, 02:15, takes the first, and quarter 14, 03:15, is matched with quarter 18"
+    (bakery_group ++
+    ("M         1000 859182400220162088 20241027  10       -80" ∷
+    "M         1000 859182400220162088 20241027  14       -20" ∷
+    "M         1000 859182400220162088 20241027  18       -33" ∷
+    "M         1000 859182400220162088 20241117  10       -91" ∷
+    "E 20241124  10         1003" ∷
+    "E 20241124  14         1003" ∷ []))
+    ("A   0         1000" ∷
+    "A   0         1001" ∷
+    "A   0         1002" ∷
+    "A   0         1003" ∷
+    "R   0 1" ∷
+    "S   1   1         0" ∷
+    "U   1        86" ∷
+    "V   1         0" ∷
+    "W   1 6" ∷
+    "W   2 2" ∷
+    "R   0 1" ∷
+    "S   1   1         0" ∷
+    "U   1        33" ∷
+    "V   1         0" ∷
+    "W   1 6" ∷
+    "W   2 1" ∷ [])
+    ∷ []
+
 -- ---- K 100
 
 -- day 100 is 20240410, 127 is 20240507, 128 is 20240508; the clear drops the reading of day 99 and keeps the one shown at P, which is the mean on day 128
@@ -813,7 +942,7 @@ refused_event_rows =
 
 -- all rows
 abbrev pub rows : List Row
-rows = list_rows ++ example_rows ++ code_rows ++ first_event_rows ++ day_rows ++ size_rows ++ limit_rows ++ mean_rows ++ origin_rows ++ clear_rows ++ refused_group_rows ++ refused_event_rows
+rows = list_rows ++ example_rows ++ code_rows ++ first_event_rows ++ day_rows ++ size_rows ++ limit_rows ++ mean_rows ++ origin_rows ++ wall_clock_rows ++ clear_rows ++ refused_group_rows ++ refused_event_rows
 
 -- what program `share` writes for a row's input
 abbrev pub writes : Row → List ℕ

@@ -1,14 +1,19 @@
--- What users of a result rely on, stated of its definitions; the proofs stand in proofs/Laws.antt and proofs/Reached.antt. Assumes nothing.
-use Rattle.std.specs.Prelude.{ℕ, ◌+◌, ◌≤◌, ◌<◌, ◌≡◌, false, List, length, get_or}
+-- What users of a result rely on, stated of its definitions; the proofs stand in proofs/Laws.antt, proofs/Alike.antt and
+-- proofs/Reached.antt. Assumes nothing.
+use Rattle.std.specs.Prelude.{ℕ, ◌+◌, ◌≤◌, ◌<◌, ◌≡◌, true, false, List, length, get_or}
 use Rattle.lists.specs.Place.{placed}
 use Rattle.registration.specs.declared.Registration.{Registration}
 use Rattle.registration.specs.Rules.{points}
 use Rattle.registration.specs.Damage.{is_damaged}
 use Rattle.registration.specs.Pairs.{of_consumer, of_producer, pairs_before, pairs_in}
+use Rattle.calendar.specs.Quarters.{quarter_exists}
 use Rattle.allocation.specs.Input.{Shareable}
+use Rattle.journal.specs.Order.{Reading}
 use Rattle.lookup.specs.declared.PointValue.{PointValue}
 use Rattle.lookup.specs.Substitutes.{number_of_origin}
-use Rattle.evaluation.specs.Evaluation.{Result, result_from}
+use Rattle.lookup.specs.ByNumber.{NoneOfFive}
+use Rattle.evaluation.specs.Evaluation.{Result, result_from, evaluation_of}
+use Rattle.evaluation.specs.ByNumber.{evaluation_by_number}
 use Rattle.evaluation.specs.Layout.{Part, Shares, Withdrawals, Supplies, Origins, size_of, result_most, part_in, part_of, result_of, HasLengths}
 
 -- one share for each pair, one remaining withdrawal for each consumer, one remaining supply for each producer, one origin for each of both
@@ -77,3 +82,9 @@ pub record MostReached : Type 0 where
   pub registration : Registration
   pub undamaged : is_damaged registration ≡ false
   pub size : size_of registration ≡ result_most
+
+-- where clocks change on none of the five days, the day itself and those of the four earlier weeks, the whole evaluation is what it was by quarter numbers
+abbrev pub UnchangedEvaluation : Type 0
+UnchangedEvaluation =
+    (r : Registration) (readings : ℕ → ℕ → ℕ → List Reading) (day quarter T : ℕ) → quarter_exists day quarter ≡ true → NoneOfFive day
+    → evaluation_of r readings day quarter T ≡ evaluation_by_number r readings day quarter T

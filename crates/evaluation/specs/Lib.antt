@@ -1,4 +1,5 @@
 pub mod Evaluation
 pub mod Layout
 pub mod Working
+pub mod ByNumber
 pub mod Laws

@@ -19,7 +19,7 @@ module _ (day quarter T : ℕ) (exists : quarter_exists day quarter ≡ true) (f
   week_alike weeks few =
       by_option (earlier weeks day quarter)
       (λ n. cc)
-      (λ slot n. cc (h slot (earlier_within day quarter exists weeks few slot n)))
+      (λ slot n. cc (h slot (earlier_within weeks day quarter few slot n)))
 
   -- the four earlier weeks
   weeks_alike : weeks_before f day quarter T ≡ weeks_before g day quarter T

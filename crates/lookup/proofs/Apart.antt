@@ -41,7 +41,7 @@ module _ (asked : Asked) (exists : quarter_exists asked.day asked.quarter ≡ tr
         by_option (earlier weeks asked.day asked.quarter)
         (λ n. let z : false ≡ true = rw n at t in absurd (false≢true z))
         (λ slot n.
-        let l = earlier_lies asked.day asked.quarter exists weeks slot n in
+        let l = earlier_lies weeks asked.day asked.quarter slot n in
         let d = exists_day asked.day asked.quarter exists in
         let here : place_of point slot.day slot.quarter ≡ place = eqb-true _ place (rw n at t) in
         record {

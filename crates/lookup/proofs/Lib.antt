@@ -9,6 +9,7 @@ pub mod Passed
 pub mod Newest
 pub mod Own
 pub mod Earlier
+pub mod Matched
 pub mod Sought
 pub mod Apart
 pub mod Passing

@@ -1,13 +1,15 @@
 -- What stands in for a missing reading: the values of the four earlier weeks that exist, by the days before. Assumes nothing.
 use Rattle.std.proofs.Common.{◌≡◌, ℕ, ◌-◌, ◌*◌, leb, List, ◌∷◌, ◌++◌, refl, append-nil}
-use Rattle.std.specs.Prelude.{Option}
+use Rattle.std.specs.Prelude.{Option, None, Some}
+use Rattle.std.specs.Option.{option_map}
 use Rattle.lists.proofs.Cases.{by_test, by_option}
 use Rattle.journal.specs.Value.{Value}
 use Rattle.journal.specs.Order.{Reading}
 use Rattle.journal.specs.Readings.{shown}
-use Rattle.lookup.specs.Earlier.{week_days, earlier}
+use Rattle.wall_clock.specs.Starts.{quarter_start, first_at}
+use Rattle.lookup.specs.Earlier.{week_days, slot_on, earlier}
 use Rattle.lookup.specs.Substitutes.{existing, value_at, weeks_before}
-use Rattle.lookup.specs.Laws.{shown_before, shown_in_weeks}
+use Rattle.lookup.specs.Laws.{magnitude_in, shown_before, shown_in_weeks}
 
 module _ (readings : ℕ → ℕ → List Reading) (day quarter T : ℕ) where
   -- an earlier week's value, before others, among those that exist
@@ -17,8 +19,13 @@ module _ (readings : ℕ → ℕ → List Reading) (day quarter T : ℕ) where
   week_exists weeks days values e =
       rw e
       (by_test (leb days day)
-      (λ t. rw t (by_option (shown T (readings (day - days) quarter)) (λ n. rw n) (λ reading n. rw n)))
+      (λ t. rw t (in_quarter (day - days) (first_at (day - days) (quarter_start day quarter).minutes)))
       (λ f. rw f))
+    where
+      in_quarter : (on : ℕ) (found : Option ℕ)
+          → existing (value_at T readings (option_map (slot_on on) found) ∷ values) ≡ magnitude_in readings on T found ++ existing values
+      in_quarter on None = refl
+      in_quarter on (Some number) = by_option (shown T (readings on number)) (λ n. rw n) (λ reading n. rw n)
 
   -- those of the four weeks
   pub weeks_exist : existing (weeks_before readings day quarter T) ≡ shown_in_weeks readings day quarter T

@@ -75,14 +75,17 @@ fn is_near(first: u64, place: u64) -> bool
 }
 
 impl Lookup<'_> {
-    // The place of a point's quarter hour so many weeks before: the same quarter number; none lies before day 0.
+    // The place of a point's quarter hour so many weeks before, at the same time of day by the wall clock: the first of a doubled hour, none of a missing
+    // one, and none before day 0.
     #[tactic(auto, unfolding(crate::specs::Earlier::earlier))]
     fn earlier_place(&self, point: u64, weeks: u8) -> Option<u64>
         requires { point < 64 }
         ensures { result ≡ earlier_place point self.now.asked weeks }
     {
         let day = self.asked.day.checked_sub(WEEK_DAYS * u64::from(weeks))?;
-        Some(journal::place(point, day, self.asked.quarter))
+        let start = wall_clock::quarter_start(self.asked.day, self.asked.quarter);
+        let quarter = wall_clock::first_at(day, start.minutes)?;
+        Some(journal::place(point, day, quarter))
     }
 
     // All four earlier weeks are sought, and nothing is met.

@@ -1,6 +1,7 @@
 //! A call made through the library and through the second implementation, with all that it gives and leaves compared.
 
 use crate::named::Named;
+use crate::shown::View;
 use crate::sides::{self, Event};
 use second::registration::Registration;
 use second::registration_text;
@@ -34,6 +35,21 @@ pub struct Kept {
 }
 
 impl Kept {
+    /// The part of the journal that holds entries, as far as there is room for them.
+    pub fn entries(&self) -> &[u64] {
+        let room = self.journal.len() / 3;
+        &self.journal[..3 * self.service.state.entries.min(room)]
+    }
+
+    /// These entries, seen for a point as of a stamp.
+    pub fn view(&self, point: usize, until: u64) -> View<'_> {
+        View {
+            entries: self.entries(),
+            point,
+            until,
+        }
+    }
+
     /// Makes an event's call through the second implementation.
     pub fn make(&mut self, event: Event, result: &mut [u64]) -> sides::Answer {
         sides::through_second(&mut self.service, &mut self.journal, event, result)

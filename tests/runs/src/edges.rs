@@ -1,11 +1,9 @@
-//! The readings that an evaluation finds for a point, and how often they stand at an edge of its look-up.
+//! How often the readings that an evaluation finds for a point stand at an edge of its look-up.
 
 use crate::calls::Kept;
-use second::calendar;
+use crate::matches::Matches;
+use crate::shown::{matched, Shown};
 use std::fmt;
-
-/// An entry that is shown: its number in the journal, from 0, and its magnitude.
-pub type Shown = (usize, u64);
 
 /// How often the values of accepted evaluations stand at an edge.
 #[derive(Default, PartialEq, Debug)]
@@ -20,47 +18,35 @@ pub struct Edges {
     pub alone: [u64; 4],
     /// How many are a mean with the journal's oldest entry in it.
     pub with_oldest: u64,
-}
-
-/// The entries shown for a point on a day and one to four weeks before it, at a quarter and as of a stamp, by those of
-/// an undamaged journal.
-pub fn shown(kept: &Kept, point: usize, day: u64, quarter: u64, until: u64) -> [Option<Shown>; 5] {
-    let places: [Option<u64>; 5] = std::array::from_fn(|weeks| {
-        let on = day.checked_sub(7 * weeks as u64)?;
-        Some((point as u64 * calendar::DAYS + on) * 100 + quarter - 1)
-    });
-    let mut found = [None; 5];
-    let entries = kept.journal.chunks_exact(3).take(kept.service.state.entries);
-    for (number, entry) in entries.enumerate() {
-        if let (true, Some(weeks)) = (entry[0] <= until, places.iter().position(|&at| at == Some(entry[1]))) {
-            found[weeks] = Some((number, entry[2]));
-        }
-    }
-    found
+    /// How many are a mean that is matched over a changeover.
+    pub matches: Matches,
 }
 
 impl Edges {
     /// Counts those of an evaluation as well.
     pub fn count(&mut self, kept: &Kept, day: u64, quarter: u64, until: u64) {
         let registration = &kept.service.registration;
+        let slots = matched(day, quarter);
         for point in 0..registration.points() {
             let status = usize::from(registration.statuses[point]);
-            let [own, earlier @ ..] = shown(kept, point, day, quarter, until);
-            match own {
-                Some((_, magnitude)) => self.zeros_measured[status] += u64::from(magnitude == 0),
-                None if status > 0 => self.earlier_unused[status - 1] += u64::from(earlier != [None; 4]),
-                None => self.count_mean(earlier),
+            let view = kept.view(point, until);
+            let shown = view.all(&slots);
+            match shown {
+                [Some((_, magnitude)), ..] => self.zeros_measured[status] += u64::from(magnitude == 0),
+                [None, None, None, None, None] => (),
+                _ if status > 0 => self.earlier_unused[status - 1] += 1,
+                [None, earlier @ ..] => {
+                    self.count_mean(&earlier);
+                    self.matches.count(view, &slots, &shown);
+                }
             }
         }
     }
 
-    /// Counts a mean by the entries of the four weeks, if there are any.
-    fn count_mean(&mut self, earlier: [Option<Shown>; 4]) {
+    /// Counts a mean by the entries of the four weeks, of which there is one at least.
+    fn count_mean(&mut self, earlier: &[Option<Shown>; 4]) {
         let met: Vec<usize> = (0..4).filter(|&week| earlier[week].is_some()).collect();
         let mut entries = earlier.iter().flatten();
-        if met.is_empty() {
-            return;
-        }
         if let [week] = met[..] {
             self.alone[week] += 1;
         }
@@ -76,6 +62,7 @@ impl Edges {
             &self.means_of_zeros,
             &self.alone,
             &[self.with_oldest],
+            &self.matches.counts(),
         ]
         .concat()
     }
@@ -89,12 +76,13 @@ impl fmt::Display for Edges {
             means_of_zeros,
             alone,
             with_oldest,
+            matches,
         } = self;
         write!(
             out,
             "readings of 0 with status 0 to 3: {zeros_measured:?}, zeros by status 1 to 3 where an earlier week has a \
              reading: {earlier_unused:?}, means of zeros over 1 to 4 weeks: {means_of_zeros:?}, readings of week 1, 2, \
-             3 or 4 alone: {alone:?}, means with the journal's oldest entry: {with_oldest}"
+             3 or 4 alone: {alone:?}, means with the journal's oldest entry: {with_oldest}, {matches}"
         )
     }
 }
@@ -104,6 +92,7 @@ mod tests {
     use super::*;
     use crate::groups;
     use crate::random::Random;
+    use crate::shown::At;
     use crate::sides::Event;
     use second::service::Service;
 
@@ -117,16 +106,21 @@ mod tests {
         }
     }
 
-    /// Submits a reading of the first point, a producer, at quarter 5 of a day.
-    fn submit(kept: &mut Kept, day: u64, value: i64) {
+    /// Submits a reading of the first point, a producer, at a day's quarter.
+    fn submit_at(kept: &mut Kept, (day, quarter): At, value: i64) {
         let event = Event::Submission {
             clock: 0,
             code: kept.service.registration.codes[0],
             day,
-            quarter: 5,
+            quarter,
             value,
         };
         assert_eq!(kept.make(event, &mut []).0, 0);
+    }
+
+    /// Submits a reading of the first point at quarter 5 of a day.
+    fn submit(kept: &mut Kept, day: u64, value: i64) {
+        submit_at(kept, (day, 5), value);
     }
 
     /// The edges of one evaluation.
@@ -159,6 +153,56 @@ mod tests {
             assert_eq!(counted(&two, 100, 5, 2), with_oldest);
             submit(&mut kept, 100, 7);
             assert_eq!(counted(&kept, 100, 5, 2), Edges::default());
+        }
+    }
+
+    /// The edges of an evaluation with a reading of a number of weeks before alone, which is the journal's only entry.
+    fn alone(weeks: u64, other_number: [u64; 4]) -> Edges {
+        let mut edges = Edges {
+            with_oldest: 1,
+            ..Edges::default()
+        };
+        edges.alone[weeks as usize - 1] = 1;
+        edges.matches.other_number = other_number;
+        edges
+    }
+
+    #[test]
+    fn a_week_alone_is_counted_at_the_same_time_of_day() {
+        for weeks in 1..=4 {
+            for ((day, quarter), matched, other_number) in [
+                ((90, 9), 13, [1, 0, 0, 0]),
+                ((90, 8), 8, [0; 4]),
+                ((300, 17), 13, [0, 1, 0, 0]),
+                ((300, 9), 9, [0; 4]),
+                ((90 + 7 * weeks, 13), 9, [0, 0, 1, 0]),
+                ((300 + 7 * weeks, 13), 17, [0, 0, 0, 1]),
+                ((300 + 7 * weeks, 9), 9, [0; 4]),
+            ] {
+                let mut kept = active(weeks);
+                submit_at(&mut kept, (day - 7 * weeks, matched), 7);
+                assert_eq!(counted(&kept, day, quarter, 1), alone(weeks, other_number));
+            }
+        }
+    }
+
+    #[test]
+    fn a_reading_at_another_time_of_day_is_not_counted() {
+        for weeks in 1..=4 {
+            for ((day, quarter), unmatched) in [
+                ((90, 9), 9),
+                ((90, 9), 12),
+                ((300, 13), 13),
+                ((300, 17), 17),
+                ((90 + 7 * weeks, 9), 9),
+                ((90 + 7 * weeks, 13), 13),
+                ((300 + 7 * weeks, 9), 13),
+                ((300 + 7 * weeks, 13), 13),
+            ] {
+                let mut kept = active(weeks);
+                submit_at(&mut kept, (day - 7 * weeks, unmatched), 7);
+                assert_eq!(counted(&kept, day, quarter, 1), Edges::default());
+            }
         }
     }
 

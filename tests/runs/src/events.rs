@@ -2,16 +2,19 @@
 //! that go back, and every kind of argument that is refused.
 
 use crate::calls::Kept;
-use crate::edges;
 use crate::groups;
+use crate::matches::{self, HOUR_QUARTERS};
 use crate::random::Random;
+use crate::shown::{self, At};
 use crate::sides::Event;
 use second::calendar;
+use second::evaluation::weeks_earlier;
 use second::registration::Registration;
-use second::service::{Service, State};
+use second::service::Service;
 use std::sync::OnceLock;
 
-/// A few days and quarters, so that readings meet: a day, those of the weeks before it, and neighbours.
+/// A few days and quarters, so that readings meet: a day, those of the weeks before it, and neighbours; and quarters of
+/// the first of these days.
 pub struct Slots {
     pub days: Vec<u64>,
     pub quarters: Vec<u64>,
@@ -20,31 +23,73 @@ pub struct Slots {
 /// The days that have 92 or 100 quarters.
 pub fn changeover_days() -> &'static [u64] {
     static DAYS: OnceLock<Vec<u64>> = OnceLock::new();
-    DAYS.get_or_init(|| {
-        (0..calendar::DAYS)
-            .filter(|&day| calendar::quarters(day) != Some(96))
-            .collect()
-    })
+    DAYS.get_or_init(|| (0..calendar::DAYS).filter(|&day| matches::changeover(day)).collect())
 }
 
-/// Slots around a day that is early, late, near a changeover, or any.
+/// A day, those of the weeks before it, and its neighbours.
+fn days_around(day: u64) -> Vec<u64> {
+    let before = [0, 7, 14, 21, 28, 35, 1].into_iter();
+    let mut days: Vec<u64> = before.filter_map(|before| day.checked_sub(before)).collect();
+    days.push((day + 1).min(calendar::DAYS - 1));
+    days
+}
+
+/// Slots around a day on which clocks change, or around one of the four Sundays after it. Two of the quarters are an
+/// hour apart, as matched quarters may be.
+fn slots_near_changeover(random: &mut Random) -> Slots {
+    let day = random.pick(changeover_days()) + 7 * random.between(0, 4);
+    let mut quarter = || match random.below(10) {
+        0 => random.between(89, 96),
+        1 | 2 => random.between(5, 20),
+        _ => random.between(9, 12),
+    };
+    let (one, other) = (quarter(), quarter());
+    let other = other + random.pick(&[0, HOUR_QUARTERS]);
+    Slots {
+        days: days_around(day),
+        quarters: vec![one, one + HOUR_QUARTERS, other],
+    }
+}
+
+/// Slots near a changeover, or around a day that is early, late or any.
 pub fn slots(random: &mut Random) -> Slots {
     let last = calendar::DAYS - 1;
-    let day = match random.below(6) {
+    let day = match random.below(7) {
         0 => random.between(0, 40),
         1 => last - random.between(0, 40),
-        2 | 3 => (random.pick(changeover_days()) + 7 * random.between(0, 5)).min(last),
-        _ => random.between(0, last),
+        2 => random.between(0, last),
+        _ => return slots_near_changeover(random),
     };
-    let mut days: Vec<u64> = [0, 7, 14, 21, 28, 35, 1]
-        .iter()
-        .filter_map(|&before| day.checked_sub(before))
-        .collect();
-    days.push((day + 1).min(last));
-    let quarters = (0..3)
-        .map(|_| random.pick(&[1, 2, 4, 8, 9, 12, 13, 40, 91, 92, 93, 96, 97, 100]))
-        .collect();
-    Slots { days, quarters }
+    let quarters = [1, 2, 4, 8, 9, 12, 13, 40, 91, 92, 93, 96, 97, 100];
+    Slots {
+        days: days_around(day),
+        quarters: (0..3).map(|_| random.pick(&quarters)).collect(),
+    }
+}
+
+/// How many weeks a day lies before a later one, if it does by whole weeks.
+fn weeks_before(later: u64, day: u64) -> Option<u64> {
+    let apart = later.checked_sub(day)?;
+    (apart > 0 && apart.is_multiple_of(7)).then_some(apart / 7)
+}
+
+/// A quarter so many weeks before a later day, for a reading that is to count for a quarter of that day: mostly the one
+/// it is matched with; now and then the second of a doubled hour or the one of the same number, which may not count.
+fn earlier_quarter(random: &mut Random, weeks: u64, later: u64, quarter: u64) -> u64 {
+    match weeks_earlier(weeks, later, quarter) {
+        Some(first) if matches::letter(first).is_some() && random.one_in(2) => first.1 + HOUR_QUARTERS,
+        Some((_, matched)) if !random.one_in(8) => matched,
+        _ => quarter,
+    }
+}
+
+/// A quarter of a later day that a quarter so many weeks before counts for, or, if it counts for none, the one of the
+/// same number or one an hour from it.
+fn later_quarter(random: &mut Random, weeks: u64, later: u64, at: At) -> u64 {
+    let near = [at.1, at.1 + HOUR_QUARTERS, at.1.saturating_sub(HOUR_QUARTERS)];
+    let counts = |&&quarter: &&u64| weeks_earlier(weeks, later, quarter) == Some(at);
+    let found: Vec<u64> = near.iter().filter(counts).copied().collect();
+    random.pick(if found.is_empty() { &near } else { &found })
 }
 
 /// A clock: mostly a little later than the last stamp, now and then set back, rarely at or above the limit.
@@ -93,6 +138,16 @@ fn quarter(random: &mut Random, slots: &Slots) -> u64 {
     }
 }
 
+/// A day and a quarter: where the day lies weeks before the first of the slots' days, mostly the quarter that one of
+/// the slots is matched with.
+fn slot(random: &mut Random, service: &Service, slots: &Slots) -> At {
+    let (day, quarter) = (day(random, service, slots), quarter(random, slots));
+    match weeks_before(slots.days[0], day) {
+        Some(weeks) => (day, earlier_quarter(random, weeks, slots.days[0], quarter)),
+        None => (day, quarter),
+    }
+}
+
 /// A value with the sign of its point, from so few that repeats occur; rarely of the wrong sign or size.
 fn value(random: &mut Random, producer: bool) -> i64 {
     let magnitude = match random.below(12) {
@@ -124,10 +179,9 @@ fn stamp(random: &mut Random, service: &Service) -> u64 {
 
 /// The reading of one of the journal's entries once more: with its own magnitude, or with another as a correction.
 fn again(random: &mut Random, kept: &Kept) -> Option<Event> {
-    let Kept { service, journal } = kept;
-    let entries = service.state.entries.min(journal.len() / 3);
-    let at = (entries > 0).then(|| 3 * random.place(entries))?;
-    let (place, stored) = (journal[at + 1], journal[at + 2]);
+    let (service, entries) = (&kept.service, kept.entries());
+    let at = (!entries.is_empty()).then(|| 3 * random.place(entries.len() / 3))?;
+    let (place, stored) = (entries[at + 1], entries[at + 2]);
     let point = (place / 100 / calendar::DAYS) as usize;
     let magnitude = if random.one_in(4) { stored ^ 1 } else { stored };
     let value = if point < service.registration.producers {
@@ -149,11 +203,12 @@ fn submission(random: &mut Random, service: &Service, slots: &Slots) -> Event {
     let code = code(random, service);
     let registration = &service.registration;
     let producer = registration.codes[..registration.producers.min(64)].contains(&code);
+    let (day, quarter) = slot(random, service, slots);
     Event::Submission {
         clock: clock(random, service.state.last),
         code,
-        day: day(random, service, slots),
-        quarter: quarter(random, slots),
+        day,
+        quarter,
         value: value(random, producer),
     }
 }
@@ -163,11 +218,9 @@ fn submission(random: &mut Random, service: &Service, slots: &Slots) -> Event {
 fn lone(random: &mut Random, kept: &Kept, slots: &Slots) -> Option<Event> {
     let Registration { producers, codes, .. } = kept.service.registration;
     let point = random.place(kept.service.registration.points());
-    let (first, quarter) = (slots.days[0], random.pick(&slots.quarters));
-    let day = first.checked_sub(7 * random.between(1, 4))?;
-    let none = edges::shown(kept, point, first, quarter, u64::MAX) == [None; 5];
-    let both_have = [first, day].iter().all(|&on| calendar::quarters(on) >= Some(quarter));
-    if !none || !both_have {
+    let (first, asked) = (slots.days[0], random.pick(&slots.quarters));
+    let (day, quarter) = weeks_earlier(random.between(1, 4), first, asked)?;
+    if kept.view(point, u64::MAX).all(&shown::matched(first, asked)) != [None; 5] {
         return None;
     }
     let magnitude = random.pick(&[0, 1, 3, 101, 25_000]);
@@ -209,7 +262,16 @@ pub fn focus(random: &mut Random, registration: &mut Registration, slots: &Slots
     Focus {
         points,
         quarter: random.pick(&slots.quarters),
-        limit: random.pick(&[1, 2, 100_000]),
+        limit: random.pick(&[1, 2, 100_000, 100_000]),
+    }
+}
+
+/// How many weeks before a day a reading is placed, one to four: often so many that clocks changed then.
+fn weeks_back(random: &mut Random, day: u64) -> u64 {
+    let changed = |&weeks: &u64| matches::changeover(day.saturating_sub(7 * weeks));
+    match (1..=4).find(changed) {
+        Some(weeks) if random.one_in(3) => weeks,
+        _ => random.between(1, 4),
     }
 }
 
@@ -217,13 +279,20 @@ pub fn focus(random: &mut Random, registration: &mut Registration, slots: &Slots
 /// is no such day; now and then on the first of the days itself.
 fn reading_in(random: &mut Random, service: &Service, slots: &Slots, focus: &Focus) -> Event {
     let point = random.place(focus.points);
-    let weeks = if random.one_in(10) { 0 } else { random.between(1, 4) };
+    let (first, asked) = (slots.days[0], focus.quarter);
+    let weeks = weeks_back(random, first);
+    let (day, quarter) = if random.one_in(20) {
+        (first, asked)
+    } else {
+        let quarter = earlier_quarter(random, weeks, first, asked);
+        (first.saturating_sub(7 * weeks), quarter)
+    };
     let magnitude = random.below(focus.limit) as i64;
     Event::Submission {
         clock: clock(random, service.state.last),
         code: service.registration.codes[point],
-        day: slots.days[0].saturating_sub(7 * weeks),
-        quarter: focus.quarter,
+        day,
+        quarter,
         value: if point < service.registration.producers {
             magnitude
         } else {
@@ -236,7 +305,7 @@ fn reading_in(random: &mut Random, service: &Service, slots: &Slots, focus: &Foc
 /// rarely a reading at any of the slots.
 pub fn event_in(random: &mut Random, service: &Service, slots: &Slots, focus: &Focus) -> Event {
     match random.below(30) {
-        0..=9 => Event::Evaluation {
+        0..=12 => Event::Evaluation {
             day: slots.days[0],
             quarter: focus.quarter,
             until: if random.one_in(2) {
@@ -245,7 +314,7 @@ pub fn event_in(random: &mut Random, service: &Service, slots: &Slots, focus: &F
                 stamp(random, service)
             },
         },
-        10 => submission(random, service, slots),
+        13 => submission(random, service, slots),
         _ => reading_in(random, service, slots, focus),
     }
 }
@@ -269,26 +338,30 @@ fn clear(random: &mut Random, service: &Service, slots: &Slots) -> Event {
 
 /// An evaluation, mostly of the first of the slots' days.
 fn evaluation(random: &mut Random, service: &Service, slots: &Slots) -> Event {
-    let day = if random.one_in(3) {
-        day(random, service, slots)
+    let (day, quarter) = if random.one_in(3) {
+        slot(random, service, slots)
     } else {
-        slots.days[0]
+        (slots.days[0], quarter(random, slots))
     };
     Event::Evaluation {
         day,
-        quarter: quarter(random, slots),
+        quarter,
         until: stamp(random, service),
     }
 }
 
-/// The first of the slots' days evaluated at the quarter of the journal's last entry, as of the last stamp.
-fn evaluation_at_once(kept: &Kept, slots: &Slots) -> Option<Event> {
-    let State { entries, last, .. } = kept.service.state;
-    let entry = kept.journal.chunks_exact(3).take(entries).next_back()?;
+/// The first of the slots' days evaluated at the quarter that the journal's last entry counts for, as of the last stamp.
+fn evaluation_at_once(random: &mut Random, kept: &Kept, slots: &Slots) -> Option<Event> {
+    let entry = kept.entries().chunks_exact(3).next_back()?;
+    let (day, quarter) = (entry[1] / 100 % calendar::DAYS, entry[1] % 100 + 1);
+    let first = slots.days[0];
     Some(Event::Evaluation {
-        day: slots.days[0],
-        quarter: entry[1] % 100 + 1,
-        until: last,
+        day: first,
+        quarter: match weeks_before(first, day) {
+            Some(weeks) => later_quarter(random, weeks, first, (day, quarter)),
+            None => quarter,
+        },
+        until: kept.service.state.last,
     })
 }
 
@@ -301,7 +374,7 @@ pub fn event(random: &mut Random, kept: &Kept, slots: &Slots) -> Event {
         7..=9 => zero_on_the_day(random, service, slots),
         10..=17 => submission(random, service, slots),
         18..=19 => clear(random, service, slots),
-        20..=23 => evaluation_at_once(kept, slots).unwrap_or_else(|| evaluation(random, service, slots)),
+        20..=23 => evaluation_at_once(random, kept, slots).unwrap_or_else(|| evaluation(random, service, slots)),
         _ => evaluation(random, service, slots),
     }
 }

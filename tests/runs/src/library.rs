@@ -119,6 +119,16 @@ fn fresh(random: &mut Random) -> Kept {
     }
 }
 
+/// A fresh service, mostly of a group that is not large.
+fn fresh_mostly_small(random: &mut Random) -> Kept {
+    loop {
+        let kept = fresh(random);
+        if kept.service.registration.points() <= 20 || random.one_in(4) {
+            return kept;
+        }
+    }
+}
+
 /// A result list: long enough, just long enough, one too short, without room for the origins, any too short, or empty;
 /// with any numbers in it.
 fn result_list(random: &mut Random, registration: &Registration) -> Vec<u64> {
@@ -237,7 +247,7 @@ fn at_the_ends(random: &mut Random) -> Scenario {
 /// Readings of up to three points in the four weeks before one quarter hour, in any order and with corrections, and
 /// evaluations of that quarter hour as of any stamp.
 fn earlier_weeks(random: &mut Random) -> Scenario {
-    let mut kept = fresh(random);
+    let mut kept = fresh_mostly_small(random);
     kept.journal.resize(random.between(60, 120) as usize, 7);
     let slots = events::slots(random);
     let focus = events::focus(random, &mut kept.service.registration, &slots);
@@ -245,7 +255,11 @@ fn earlier_weeks(random: &mut Random) -> Scenario {
     let mut made = Vec::new();
     for _ in 0..random.between(20, 60) {
         let event = events::event_in(random, &kept.service, &slots, &focus);
-        let result = result_list(random, &kept.service.registration);
+        let result = if random.one_in(8) {
+            result_list(random, &kept.service.registration)
+        } else {
+            vec![7; result_size(&kept.service.registration)]
+        };
         kept.make(event, &mut result.clone());
         made.push(Call::On { event, result });
     }

@@ -1,7 +1,7 @@
 //! What a result says by name: as the Rust package has it, and as the second implementation has it.
 
 use crate::calls::Kept;
-use crate::edges::{self, Shown};
+use crate::shown::{matched, Shown};
 use second::allocation::mean;
 use second::evaluation::{evaluate, Total};
 use second::registration::{Registration, NAMED};
@@ -80,7 +80,8 @@ impl Named {
     /// allocation, and not what its shares and its remainder add up to.
     pub fn of_second(kept: &Kept, day: u64, quarter: u64, until: u64) -> Named {
         let registration = &kept.service.registration;
-        let shown = |point| edges::shown(kept, point, day, quarter, until);
+        let slots = matched(day, quarter);
+        let shown = |point| kept.view(point, until).all(&slots);
         let found: Vec<[Option<Shown>; 5]> = (0..registration.points()).map(shown).collect();
         let own = |point: usize| found[point][0].map(|(_, magnitude)| magnitude);
         let evaluation = evaluate(registration, own, |point| total(&found[point][1..]));

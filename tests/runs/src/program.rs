@@ -8,6 +8,8 @@ use crate::origins::{self, Origins};
 use crate::random::Random;
 use crate::sheets;
 use crate::smaller;
+use second::calendar;
+use second::evaluation::weeks_earlier;
 use second::registration::Registration;
 use second::service::Service;
 use std::io::{Read, Write};
@@ -120,11 +122,16 @@ fn cut(random: &mut Random, text: &mut Vec<u8>) {
     }
 }
 
-/// What was seen: how often each answer, and how often each origin.
+/// How many means of other quarter numbers there have to be on days of 92 quarters, and on days of 100.
+const OTHER_NUMBERS_LEAST: u64 = 100;
+
+/// What was seen: how often each answer, how often each origin, and how many means on days of 92 quarters and on days of
+/// 100 have only readings of another quarter number in them.
 #[derive(Default)]
 struct Seen {
     answers: [u64; 17],
     origins: Origins,
+    other_numbers: [u64; 2],
 }
 
 /// The number in a column of a line, which has to have one.
@@ -134,15 +141,49 @@ fn number(line: &[u8], column: std::ops::Range<usize>) -> usize {
         .unwrap_or_else(|| panic!("a line without its number: '{}'", line.escape_ascii()))
 }
 
+/// The day and the quarter of an E line, where there is such a day.
+fn asked(line: &[u8]) -> Option<(u64, u64)> {
+    let day = calendar::day_of(number(line, 1..10) as u64)?;
+    Some((day, number(line, 10..14) as u64))
+}
+
 impl Seen {
-    /// Counts the answers of an output's A and R lines, and the origins of its W lines.
-    fn count(&mut self, output: &[u8]) {
-        for line in output.split(|&byte| byte == b'\n') {
+    /// Counts the answers of an output's A and R lines, and the origins of its W lines. From the last on, each A or R
+    /// line answers a line of the input.
+    fn count(&mut self, input: &[u8], output: &[u8]) {
+        let mut events = input.split_inclusive(|&byte| byte == b'\n').rev();
+        let mut means = 0;
+        for line in output.split(|&byte| byte == b'\n').rev() {
             match line.first() {
-                Some(b'A' | b'R') => self.answers[number(line, 1..5)] += 1,
-                Some(b'W') => origins::count(&mut self.origins, [number(line, 5..7) as u64]),
+                Some(b'A') => {
+                    self.answers[number(line, 1..5)] += 1;
+                    events.next();
+                }
+                Some(b'R') => {
+                    self.answers[number(line, 1..5)] += 1;
+                    self.count_means(events.next().and_then(asked), std::mem::take(&mut means));
+                }
+                Some(b'W') => {
+                    let origin = number(line, 5..7) as u64;
+                    origins::count(&mut self.origins, [origin]);
+                    means += u64::from((1..=4).contains(&origin));
+                }
                 _ => (),
             }
+        }
+    }
+
+    /// Counts the means of an evaluated quarter, where its day has 92 or 100 quarters and it is matched with another
+    /// number: in all four weeks, since clocks changed in none of them.
+    fn count_means(&mut self, asked: Option<(u64, u64)>, means: u64) {
+        let Some((day, quarter)) = asked else {
+            return;
+        };
+        let other = weeks_earlier(1, day, quarter).is_some_and(|(_, number)| number != quarter);
+        match calendar::quarters(day) {
+            Some(92) if other => self.other_numbers[0] += means,
+            Some(100) if other => self.other_numbers[1] += means,
+            _ => (),
         }
     }
 
@@ -150,6 +191,12 @@ impl Seen {
     fn enough(&self) -> Result<(), String> {
         if let Some(missing) = ANSWERS.clone().find(|&answer| self.answers[answer] == 0) {
             return Err(format!("no input was answered by {missing}"));
+        }
+        if self.other_numbers.iter().any(|&means| means < OTHER_NUMBERS_LEAST) {
+            return Err(format!(
+                "too few means of other quarter numbers on days of 92 and of 100 quarters: {:?}",
+                self.other_numbers
+            ));
         }
         origins::enough(&self.origins, 1)
     }
@@ -188,13 +235,29 @@ pub fn compare(seed: u64, count: u64) -> Result<String, String> {
         if written(&program, &input) != expected {
             return Err(report(seed, &program, &input));
         }
-        seen.count(&expected);
+        seen.count(&input, &expected);
     }
     if count >= INPUTS {
         seen.enough()?;
     }
     Ok(format!(
-        "{count} inputs from seed {seed} on, the same bytes; answers 0 to 13: {:?}; origins 0 to 6: {:?}",
-        &seen.answers[ANSWERS], seen.origins
+        "{count} inputs from seed {seed} on, the same bytes; answers 0 to 13: {:?}; origins 0 to 6: {:?}; means of \
+         other quarter numbers on days of 92 and of 100 quarters: {:?}",
+        &seen.answers[ANSWERS], seen.origins, seen.other_numbers
     ))
+}
+
+#[cfg(test)]
+mod tests {
+    use super::*;
+
+    #[test]
+    fn means_of_other_quarter_numbers_are_counted_by_their_day() {
+        let input = include_bytes!("../../share/wall_clock.in");
+        let output = include_bytes!("../../share/wall_clock.out");
+        let mut seen = Seen::default();
+        seen.count(input, output);
+        assert_eq!(seen.other_numbers, [3, 2]);
+        assert_eq!(seen.origins, [4, 9, 1, 0, 0, 0, 6]);
+    }
 }

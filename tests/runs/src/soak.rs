@@ -2,9 +2,12 @@
 //! and then, each accepted answer compared with the book. Nothing may be altered by a refused call, and no call may be
 //! refused by 15.
 
+use crate::events;
 use crate::groups;
+use crate::matches::{near_changeover, Matches};
 use crate::origins::{self, Origins};
 use crate::random::Random;
+use crate::shown::{matched, View};
 use crate::sides::{self, Event};
 use second::book::Book;
 use second::calendar;
@@ -21,6 +24,13 @@ const ROOM: usize = 1200;
 
 /// How often at least each origin is to occur in all the calls of the tests.
 const ORIGINS_LEAST: u64 = 4_000;
+
+/// How often at least each kind of mean that is matched over a changeover is to occur in them.
+const MATCHES_LEAST: u64 = 10;
+
+/// The quarters that the readings of a year are of, by turns: few, so that readings meet, and mostly an hour apart around
+/// the hours that clocks leave out or have twice.
+const QUARTERS: [[u64; 4]; 4] = [[9, 13, 17, 92], [12, 16, 20, 96], [1, 8, 9, 13], [13, 17, 21, 25]];
 
 /// How many past evaluations are asked again.
 const REMEMBERED: usize = 200;
@@ -51,6 +61,7 @@ struct Seen {
     repeats: u64,
     evaluations: u64,
     origins: Origins,
+    matches: Matches,
     asked_again: u64,
     clears: u64,
     dropped: u64,
@@ -106,8 +117,22 @@ impl Soak {
         }
     }
 
-    /// A day of late: today, a week or some weeks before, rarely one long past.
+    /// The day on which clocks changed last or one of the four Sundays after it, if that is not long past.
+    fn day_near_changeover(&mut self) -> Option<u64> {
+        let days = events::changeover_days();
+        let passed = days.partition_point(|&day| day <= self.today);
+        let last = days[..passed].last()?;
+        let weeks = (self.today - last) / 7;
+        (weeks < 6).then(|| last + 7 * self.random.between(0, weeks.min(4)))
+    }
+
+    /// A day of late: today, a week or some weeks before, rarely one long past; often one near a changeover.
     fn day(&mut self) -> u64 {
+        if self.random.one_in(2) {
+            if let Some(day) = self.day_near_changeover() {
+                return day;
+            }
+        }
         let before = match self.random.below(10) {
             0..=3 => 0,
             4..=8 => 7 * self.random.below(6),
@@ -116,13 +141,13 @@ impl Soak {
         self.today.saturating_sub(before)
     }
 
-    /// One of a few quarters, so that readings meet.
-    fn quarter(&mut self) -> u64 {
+    /// One of the quarters of a day's year, rarely one of the last that days have.
+    fn quarter(&mut self, day: u64) -> u64 {
         if self.random.one_in(20) {
-            97
-        } else {
-            self.random.pick(&[1, 9, 50, 92])
+            return self.random.pick(&[92, 96, 97, 100]);
         }
+        let year = calendar::date_of(day).map_or(0, |date| date / 10000);
+        self.random.pick(&QUARTERS[year as usize % QUARTERS.len()])
     }
 
     /// A reading, often with a value that its quarter hour has had.
@@ -140,11 +165,12 @@ impl Soak {
             -magnitude
         };
         let code = registration.codes[point];
+        let day = self.day();
         Event::Submission {
             clock: self.clock,
             code,
-            day: self.day(),
-            quarter: self.quarter(),
+            day,
+            quarter: self.quarter(day),
             value,
         }
     }
@@ -168,7 +194,7 @@ impl Soak {
             return Event::Evaluation { day, quarter, until };
         }
         let day = self.day();
-        let quarter = self.quarter();
+        let quarter = self.quarter(day);
         Event::Evaluation {
             day,
             quarter,
@@ -208,6 +234,19 @@ impl Soak {
         Ok(())
     }
 
+    /// Counts the means of an accepted evaluation that are matched over a changeover.
+    fn count_matches(&mut self, (day, quarter, until): (u64, u64, u64), origins: &[u64]) {
+        if !near_changeover(day) {
+            return;
+        }
+        let entries = &self.journal[..3 * self.service.state.numbers.entries];
+        let slots = matched(day, quarter);
+        for point in (0..origins.len()).filter(|&point| (1..=4).contains(&origins[point])) {
+            let view = View { entries, point, until };
+            self.seen.matches.count(view, &slots, &view.all(&slots));
+        }
+    }
+
     /// An accepted evaluation gives the book's numbers, origins too, and those of any accepted one before it.
     fn evaluated(&mut self, (day, quarter, until): (u64, u64, u64), rounds: u64, result: &[u64]) -> Result<(), String> {
         let expected = self.book.result(day, quarter, until);
@@ -219,6 +258,7 @@ impl Soak {
         }
         numbers.push(rounds);
         self.seen.evaluations += 1;
+        self.count_matches((day, quarter, until), &expected.origins);
         origins::count(&mut self.seen.origins, expected.origins);
         let before = self
             .remembered
@@ -285,6 +325,9 @@ impl Soak {
     /// Says what was seen too seldom for a run of a million calls.
     fn enough(&self) -> Result<(), String> {
         origins::enough(&self.seen.origins, ORIGINS_LEAST)?;
+        if self.seen.matches.counts().iter().any(|&seen| seen < MATCHES_LEAST) {
+            return Err(format!("too few over changeovers: {}", self.seen.matches));
+        }
         let Seen {
             new_readings,
             repeats,

@@ -102,4 +102,34 @@ mod tests {
             assert_eq!(result.origins, [origin, 6, 6]);
         }
     }
+
+    #[test]
+    fn earlier_weeks_are_matched_by_the_wall_clock() {
+        let mut book = Book::new(&group());
+        for (day, quarter, value) in [
+            (83, 21, 5),
+            (83, 17, 4),
+            (90, 9, 3),
+            (300, 9, 20),
+            (300, 13, 21),
+            (300, 17, 30),
+        ] {
+            book.submit(0, PRODUCER, day, quarter, value);
+        }
+        for (day, quarter, supply, origin) in [
+            (90, 17, 5, 1),
+            (90, 13, 4, 1),
+            (90, 21, 0, 6),
+            (97, 21, 5, 1),
+            (118, 9, 0, 6),
+            (118, 13, 3, 1),
+            (328, 9, 20, 1),
+            (328, 13, 30, 1),
+            (328, 17, 0, 6),
+        ] {
+            let result = book.result(day, quarter, 6);
+            assert_eq!(result.outcome.supplies, [supply]);
+            assert_eq!(result.origins, [origin, 6, 6]);
+        }
+    }
 }

@@ -1,4 +1,4 @@
-//! The days from 2024 to 2099, their dates, their quarters and their changeovers.
+//! The days from 2024 to 2099, their dates, their changeovers, and their quarters with the starts by the wall clock.
 
 use crate::columns;
 
@@ -16,6 +16,21 @@ const FOUR_YEARS: u64 = 4 * 365 + 1;
 
 /// The width of the column in which a changeover day is written.
 const CHANGEOVER_WIDTH: usize = 6;
+
+/// The minutes of a quarter.
+const QUARTER: u64 = 15;
+
+/// The minutes of an hour, by which the clocks are changed.
+const HOUR_MINUTES: u64 = 60;
+
+/// The minutes that the wall clock shows from midnight to midnight.
+const DAY_MINUTES: u64 = 24 * HOUR_MINUTES;
+
+/// The minutes at 02:00, when the clocks of March go forward to 03:00.
+const TWO: u64 = 2 * HOUR_MINUTES;
+
+/// The minutes at 03:00, when the clocks of October go back to 02:00.
+const THREE: u64 = 3 * HOUR_MINUTES;
 
 /// The days of each month in a common year.
 const MONTHS: [u64; 12] = [31, 28, 31, 30, 31, 30, 31, 31, 30, 31, 30, 31];
@@ -80,6 +95,56 @@ pub fn quarters(day: u64) -> Option<u64> {
     }
 }
 
+/// The letter that tells apart the two quarters of a doubled hour that start at the same minutes.
+#[derive(Clone, Copy, PartialEq, Eq, PartialOrd, Ord, Debug)]
+pub enum Letter {
+    /// That of the first.
+    A,
+    /// That of the second.
+    B,
+}
+
+/// The start of a quarter by the wall clock.
+#[derive(Clone, Copy, PartialEq, Eq, PartialOrd, Ord, Debug)]
+pub struct Start {
+    /// The minutes from midnight that the wall clock shows.
+    pub minutes: u64,
+    /// The letter, if the quarter belongs to a doubled hour.
+    pub letter: Option<Letter>,
+}
+
+/// Gives the start of a day's quarter by the wall clock, or nothing if there is no such day or quarter.
+pub fn wall_clock_start(day: u64, quarter: u64) -> Option<Start> {
+    let quarters = quarters(day)?;
+    if !(1..=quarters).contains(&quarter) {
+        return None;
+    }
+    let passed = QUARTER * (quarter - 1);
+    let (minutes, letter) = match quarters {
+        92 if passed >= TWO => (passed + HOUR_MINUTES, None),
+        100 if passed >= THREE + HOUR_MINUTES => (passed - HOUR_MINUTES, None),
+        100 if passed >= THREE => (passed - HOUR_MINUTES, Some(Letter::B)),
+        100 if passed >= TWO => (passed, Some(Letter::A)),
+        _ => (passed, None),
+    };
+    Some(Start { minutes, letter })
+}
+
+/// Gives the first quarter of a day that starts at given minutes by the wall clock, or nothing if none does.
+pub fn first_quarter_at(day: u64, minutes: u64) -> Option<u64> {
+    let quarters = quarters(day)?;
+    if minutes >= DAY_MINUTES || !minutes.is_multiple_of(QUARTER) {
+        return None;
+    }
+    let passed = match quarters {
+        92 if (TWO..THREE).contains(&minutes) => return None,
+        92 if minutes >= THREE => minutes - HOUR_MINUTES,
+        100 if minutes >= THREE => minutes + HOUR_MINUTES,
+        _ => minutes,
+    };
+    Some(passed / QUARTER + 1)
+}
+
 /// Gives the day of a date written as the number YYYYMMDD, or nothing if the calendar has no such date.
 pub fn day_of(date: u64) -> Option<u64> {
     let (year, month, in_month) = (date / 10000, date / 100 % 100, date % 100);
@@ -126,6 +191,19 @@ pub fn changeover_text() -> Vec<u8> {
 #[cfg(test)]
 mod tests {
     use super::*;
+    use crate::samples::starts_by_hour;
+
+    /// Gives a start without a letter from its hour and minute.
+    fn plain(hour: u64, minute: u64) -> Option<Start> {
+        let minutes = 60 * hour + minute;
+        Some(Start { minutes, letter: None })
+    }
+
+    /// Gives a start with a letter from its hour and minute.
+    fn doubled(hour: u64, minute: u64, letter: Letter) -> Option<Start> {
+        let letter = Some(letter);
+        plain(hour, minute).map(|start| Start { letter, ..start })
+    }
 
     #[test]
     fn changeover_days_have_their_quarters() {
@@ -198,6 +276,118 @@ mod tests {
         for (line, day) in text.chunks(7).zip(changeovers()) {
             assert_eq!(line[6], b'\n');
             assert_eq!(columns::number(&line[..6]), Some(day));
+        }
+    }
+
+    #[test]
+    fn an_ordinary_day_starts_each_quarter_without_a_letter() {
+        for day in [0, 83, 89, 91, 97, 299, 301, 307, 27758] {
+            for quarter in 1..=96 {
+                let start = plain(0, 15 * (quarter - 1));
+                assert_eq!(wall_clock_start(day, quarter), start);
+                assert_eq!(first_quarter_at(day, 15 * (quarter - 1)), Some(quarter));
+            }
+            for beyond in [0, 97, 100, u64::MAX] {
+                assert_eq!(wall_clock_start(day, beyond), None);
+            }
+        }
+        assert_eq!(wall_clock_start(83, 21), plain(5, 0));
+        assert_eq!(wall_clock_start(83, 96), plain(23, 45));
+    }
+
+    #[test]
+    fn the_day_of_march_misses_the_hour_from_two() {
+        for quarter in 1..=92 {
+            let missed = if quarter < 9 { 0 } else { 60 };
+            assert_eq!(wall_clock_start(90, quarter), plain(0, 15 * (quarter - 1) + missed));
+        }
+        for (quarter, start) in [
+            (1, plain(0, 0)),
+            (8, plain(1, 45)),
+            (9, plain(3, 0)),
+            (12, plain(3, 45)),
+            (13, plain(4, 0)),
+            (17, plain(5, 0)),
+            (92, plain(23, 45)),
+            (93, None),
+            (0, None),
+            (u64::MAX, None),
+        ] {
+            assert_eq!(wall_clock_start(90, quarter), start);
+        }
+        for minutes in [120, 135, 150, 165] {
+            assert_eq!(first_quarter_at(90, minutes), None);
+        }
+        assert_eq!(first_quarter_at(90, 105), Some(8));
+        assert_eq!(first_quarter_at(90, 180), Some(9));
+        assert_eq!(first_quarter_at(90, 1425), Some(92));
+    }
+
+    #[test]
+    fn the_day_of_october_has_the_hour_from_two_twice() {
+        for (quarter, start) in [
+            (1, plain(0, 0)),
+            (8, plain(1, 45)),
+            (9, doubled(2, 0, Letter::A)),
+            (10, doubled(2, 15, Letter::A)),
+            (11, doubled(2, 30, Letter::A)),
+            (12, doubled(2, 45, Letter::A)),
+            (13, doubled(2, 0, Letter::B)),
+            (14, doubled(2, 15, Letter::B)),
+            (15, doubled(2, 30, Letter::B)),
+            (16, doubled(2, 45, Letter::B)),
+            (17, plain(3, 0)),
+            (25, plain(5, 0)),
+            (100, plain(23, 45)),
+            (101, None),
+            (0, None),
+            (u64::MAX, None),
+        ] {
+            assert_eq!(wall_clock_start(300, quarter), start);
+        }
+        for quarter in 17..=100 {
+            assert_eq!(wall_clock_start(300, quarter), plain(0, 15 * (quarter - 1) - 60));
+        }
+        assert_eq!(first_quarter_at(300, 120), Some(9));
+        assert_eq!(first_quarter_at(300, 165), Some(12));
+        assert_eq!(first_quarter_at(300, 180), Some(17));
+        assert_eq!(first_quarter_at(300, 1425), Some(100));
+    }
+
+    #[test]
+    fn starts_are_those_of_the_hours_on_every_day() {
+        for day in 0..DAYS {
+            let expected = starts_by_hour(day);
+            assert_eq!(quarters(day), Some(expected.len() as u64));
+            for (quarter, start) in (1..).zip(expected) {
+                assert_eq!(wall_clock_start(day, quarter), Some(start));
+            }
+        }
+        for day in [DAYS, u64::MAX] {
+            assert_eq!(wall_clock_start(day, 1), None);
+            assert_eq!(first_quarter_at(day, 0), None);
+        }
+    }
+
+    #[test]
+    fn start_and_letter_tell_the_quarter() {
+        for day in [83, 90, 97, 300, 307].into_iter().chain(changeovers()) {
+            let count = quarters(day).unwrap();
+            let mut starts: Vec<Start> = (1..=count).filter_map(|number| wall_clock_start(day, number)).collect();
+            starts.sort();
+            starts.dedup();
+            assert_eq!(starts.len() as u64, count);
+        }
+    }
+
+    #[test]
+    fn the_first_quarter_at_given_minutes_is_found_by_a_plain_search() {
+        for day in [83, 90, 97, 300, 307].into_iter().chain(changeovers()) {
+            let starts = starts_by_hour(day);
+            for minutes in (0..=1600).chain([u64::MAX - 60, u64::MAX]) {
+                let found = (1..).zip(&starts).find(|(_, start)| start.minutes == minutes);
+                assert_eq!(first_quarter_at(day, minutes), found.map(|(quarter, _)| quarter));
+            }
         }
     }
 

@@ -2,6 +2,7 @@
 //! value.
 
 use crate::allocation::{allocate, mean, Outcome};
+use crate::calendar;
 use crate::registration::{Registration, POINTS};
 
 /// How many earlier weeks the readings for a substitute come from.
@@ -16,10 +17,13 @@ const ZERO_BY_STATUS: u64 = 5;
 /// The origin of a value that is zero since neither the quarter nor an earlier week has a reading.
 const ZERO_FOR_LACK: u64 = 6;
 
-/// Gives the day and quarter that match a day's quarter a number of weeks earlier, if there are such.
+/// Gives the day and quarter that match a day's quarter a number of weeks earlier, if there are such: the first quarter
+/// of that day that starts at the same time by the wall clock.
 pub fn weeks_earlier(weeks: u64, day: u64, quarter: u64) -> Option<(u64, u64)> {
     let earlier_day = day.checked_sub(7 * weeks)?;
-    Some((earlier_day, quarter))
+    let start = calendar::wall_clock_start(day, quarter)?;
+    let earlier_quarter = calendar::first_quarter_at(earlier_day, start.minutes)?;
+    Some((earlier_day, earlier_quarter))
 }
 
 /// The readings of a point in the earlier weeks, as far as a mean needs them.
@@ -117,7 +121,8 @@ pub fn evaluate(
 #[cfg(test)]
 mod tests {
     use super::*;
-    use crate::samples::{group, large_group};
+    use crate::calendar::{quarters, DAYS};
+    use crate::samples::{group, large_group, starts_by_hour};
 
     /// Gives a value from its magnitude and its origin.
     fn value(magnitude: u64, origin: u64) -> Value {
@@ -132,6 +137,100 @@ mod tests {
         assert_eq!(weeks_earlier(1, 6, 1), None);
         assert_eq!(weeks_earlier(4, 28, 96), Some((0, 96)));
         assert_eq!(weeks_earlier(4, 27, 96), None);
+    }
+
+    /// Checks the matches of a day a number of weeks earlier by a plain search over all quarters of the earlier day.
+    fn check_matches(weeks: u64, day: u64) {
+        let earlier_day = (day >= 7 * weeks).then(|| day - 7 * weeks);
+        let earlier_starts = earlier_day.map(starts_by_hour).unwrap_or_default();
+        for (quarter, start) in (1..).zip(starts_by_hour(day)) {
+            let mut numbered = (1..).zip(&earlier_starts);
+            let found = numbered.find(|(_, earlier)| earlier.minutes == start.minutes);
+            let expected = found.map(|(number, _)| (day - 7 * weeks, number));
+            assert_eq!(weeks_earlier(weeks, day, quarter), expected, "{weeks} {day} {quarter}");
+        }
+    }
+
+    #[test]
+    fn earlier_weeks_are_matched_as_by_a_plain_search() {
+        for day in (0..DAYS).filter(|day| *day < 3 * 366 || *day > DAYS - 2 * 366 || day % 7 == 6) {
+            (1..=WEEKS).for_each(|weeks| check_matches(weeks, day));
+        }
+    }
+
+    #[test]
+    fn earlier_weeks_keep_the_quarter_where_no_day_is_a_changeover_day() {
+        let ordinary = |day: u64| (0..=WEEKS).all(|weeks| quarters(day - 7 * weeks) == Some(96));
+        for day in (7 * WEEKS..DAYS).filter(|&day| ordinary(day)) {
+            for (weeks, quarter) in (1..=WEEKS).flat_map(|weeks| (1..=96).map(move |quarter| (weeks, quarter))) {
+                assert_eq!(weeks_earlier(weeks, day, quarter), Some((day - 7 * weeks, quarter)));
+            }
+        }
+    }
+
+    #[test]
+    fn the_bakery_at_five_is_matched_with_five() {
+        for weeks in 1..=WEEKS {
+            assert_eq!(weeks_earlier(weeks, 90, 17), Some((90 - 7 * weeks, 21)));
+            assert_eq!(weeks_earlier(weeks, 300, 25), Some((300 - 7 * weeks, 21)));
+            assert_eq!(weeks_earlier(weeks, 90 + 7 * weeks, 21), Some((90, 17)));
+            assert_eq!(weeks_earlier(weeks, 300 + 7 * weeks, 21), Some((300, 25)));
+        }
+    }
+
+    #[test]
+    fn both_quarters_of_a_doubled_hour_take_the_single_one() {
+        for (weeks, place) in (1..=WEEKS).flat_map(|weeks| (0..4).map(move |place| (weeks, place))) {
+            let single = Some((300 - 7 * weeks, 9 + place));
+            assert_eq!(weeks_earlier(weeks, 300, 9 + place), single);
+            assert_eq!(weeks_earlier(weeks, 300, 13 + place), single);
+        }
+        assert_eq!(weeks_earlier(1, 300, 8), Some((293, 8)));
+        assert_eq!(weeks_earlier(1, 300, 17), Some((293, 13)));
+        assert_eq!(weeks_earlier(1, 300, 100), Some((293, 96)));
+    }
+
+    #[test]
+    fn a_doubled_hour_gives_its_first() {
+        for weeks in 1..=WEEKS {
+            let day = 300 + 7 * weeks;
+            for (quarter, earlier) in [(8, 8), (9, 9), (12, 12), (13, 17), (16, 20), (96, 100)] {
+                assert_eq!(weeks_earlier(weeks, day, quarter), Some((300, earlier)));
+            }
+            assert!((1..=96).all(|quarter| !matches!(weeks_earlier(weeks, day, quarter), Some((_, 13..=16)))));
+        }
+    }
+
+    #[test]
+    fn a_missing_hour_gives_no_match() {
+        for weeks in 1..=WEEKS {
+            let day = 90 + 7 * weeks;
+            for (quarter, earlier) in [(8, 8), (13, 9), (16, 12), (96, 92)] {
+                assert_eq!(weeks_earlier(weeks, day, quarter), Some((90, earlier)));
+            }
+            for quarter in 9..=12 {
+                assert_eq!(weeks_earlier(weeks, day, quarter), None);
+            }
+            assert_eq!(weeks_earlier(weeks, 90, 8), Some((90 - 7 * weeks, 8)));
+            assert_eq!(weeks_earlier(weeks, 90, 9), Some((90 - 7 * weeks, 13)));
+            assert_eq!(weeks_earlier(weeks, 90, 92), Some((90 - 7 * weeks, 96)));
+        }
+    }
+
+    #[test]
+    fn quarters_that_are_none_have_no_match() {
+        for (day, quarter) in [
+            (90, 0),
+            (90, 93),
+            (97, 97),
+            (300, 101),
+            (307, 97),
+            (307, u64::MAX),
+            (DAYS, 1),
+            (u64::MAX, 1),
+        ] {
+            assert_eq!(weeks_earlier(1, day, quarter), None);
+        }
     }
 
     #[test]

@@ -284,6 +284,35 @@ W   4 5
     }
 
     #[test]
+    fn a_changeover_sunday_has_its_means_by_the_wall_clock() {
+        let readings = [
+            ("20240324  21", "A   0         1003\n"),
+            ("20240331   9", "A   0         1004\n"),
+            ("20241020   9", "A   0         1005\n"),
+            ("20241027  13", "A   0         1006\n"),
+        ];
+        let submissions = readings.map(|(place, _)| format!("M            1 859182400220162071 {place}       500\n"));
+        let stamps = readings.map(|(_, stamp)| stamp).concat();
+        for (asked, supply, origin) in [
+            ("20240331  17", 500, 1),
+            ("20240331  21", 0, 6),
+            ("20240407   9", 0, 6),
+            ("20240407  13", 500, 1),
+            ("20241027   9", 500, 1),
+            ("20241027  13", 500, 0),
+            ("20241027  14", 0, 6),
+            ("20241103  13", 0, 6),
+        ] {
+            let written = answers(&format!("{}E {asked}         1006\n", submissions.concat()));
+            let result = format!(
+                "R   0 2\nS   1   1         0\nS   2   1         0\nU   1         0\nU   2         0\n\
+                 V   1{supply:>10}\nW   1{origin:>2}\nW   2 6\nW   3 6\n"
+            );
+            assert_eq!(written, [&stamps[..], &result].concat(), "{asked}");
+        }
+    }
+
+    #[test]
     fn evaluations_and_clears_are_answered() {
         let cases = [
             ("E 20240102   1         1003\n", "R  12 0\n"),

@@ -1,5 +1,6 @@
 //! Groups and numbers that several tests use.
 
+use crate::calendar::{self, Letter, Start};
 use crate::registration::{Registration, NAMED};
 use crate::registration_text;
 
@@ -55,6 +56,32 @@ pub fn large_group(producers: usize, consumers: usize, iteration: u8) -> Registr
         }
     }
     registration
+}
+
+/// Gives the hours of a day by the wall clock in order: March leaves out that from two, October has it twice.
+fn hours(day: u64) -> Vec<(u64, Option<Letter>)> {
+    let at_two = match calendar::quarters(day) {
+        Some(92) => vec![],
+        Some(100) => vec![(2, Some(Letter::A)), (2, Some(Letter::B))],
+        _ => vec![(2, None)],
+    };
+    [
+        vec![(0, None), (1, None)],
+        at_two,
+        (3..24).map(|hour| (hour, None)).collect(),
+    ]
+    .concat()
+}
+
+/// Gives the starts of all quarters of a day in order, four to each hour.
+pub fn starts_by_hour(day: u64) -> Vec<Start> {
+    let quarters_of = |(hour, letter)| {
+        [0, 15, 30, 45].map(|minute| Start {
+            minutes: 60 * hour + minute,
+            letter,
+        })
+    };
+    hours(day).into_iter().flat_map(quarters_of).collect()
 }
 
 /// Numbers that look random, the same in every run.

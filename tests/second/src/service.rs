@@ -264,26 +264,33 @@ fn own_readings(entries: &[u64], day: u64, quarter: u64) -> [Option<u64>; POINTS
     readings
 }
 
-/// Tells how many weeks before a point's quarter a place lies, if its substitute rests on it.
-fn weeks_before(place: u64, point: usize, day: u64, quarter: u64) -> Option<u64> {
+/// Gives the places that match a point's quarter in the earlier weeks, the latest week first.
+fn earlier_places(point: usize, day: u64, quarter: u64) -> [Option<u64>; WEEKS as usize] {
+    std::array::from_fn(|week| {
+        let (day, quarter) = weeks_earlier(week as u64 + 1, day, quarter)?;
+        Some(place_of(point, day, quarter))
+    })
+}
+
+/// Gives which of the earlier weeks, counted from 0, is matched at a place, if one is.
+fn week_of_place(place: u64, point: usize, day: u64, places: &[Option<u64>]) -> Option<usize> {
     let first_place = place_of(point, day.saturating_sub(LOOK_BACK), 1);
     if place.wrapping_sub(first_place) >= LOOK_BACK * QUARTERS {
         return None;
     }
-    (1..=WEEKS).find(|&weeks| {
-        weeks_earlier(weeks, day, quarter).is_some_and(|(day, quarter)| place == place_of(point, day, quarter))
-    })
+    places.iter().position(|&earlier| earlier == Some(place))
 }
 
 /// Adds up the newest readings of a point in the earlier weeks, going back once from the last of the entries.
 fn earlier_readings(entries: &[u64], point: usize, day: u64, quarter: u64) -> Total {
+    let places = earlier_places(point, day, quarter);
     let mut total = Total::default();
     let mut met = 0u32;
     for entry in entries.rchunks_exact(ENTRY) {
         let (place, magnitude) = (entry[1], entry[2]);
-        let found = weeks_before(place, point, day, quarter);
-        if let Some(weeks) = found.filter(|weeks| met & (1 << weeks) == 0) {
-            met |= 1 << weeks;
+        let found = week_of_place(place, point, day, &places);
+        if let Some(week) = found.filter(|week| met & (1 << week) == 0) {
+            met |= 1 << week;
             total.add(magnitude);
             if total.count == u128::from(WEEKS) {
                 break;
@@ -317,7 +324,7 @@ mod tests {
     use super::*;
     use crate::allocation::allocate;
     use crate::book::Book;
-    use crate::samples::{code, group, large_group, Dice, CONSUMER, FOREIGN, PRODUCER};
+    use crate::samples::{code, group, large_group, starts_by_hour, Dice, CONSUMER, FOREIGN, PRODUCER};
 
     /// Gives a fresh service of the sample group and an empty journal for a number of entries.
     fn fresh(entries: usize) -> (Service, Vec<u64>) {
@@ -664,16 +671,23 @@ mod tests {
         of_place.max_by_key(|entry| entry[0]).map(|entry| entry[2])
     }
 
+    /// Gives the place a number of days before that starts at the same time by the wall clock, by a plain search.
+    fn place_before(own_place: u64, before: u64) -> Option<u64> {
+        let (day, number) = (own_place / 100 % 27759, own_place % 100);
+        let minutes = starts_by_hour(day)[number as usize].minutes;
+        let starts = starts_by_hour(day.checked_sub(before)?);
+        let found = (0..).zip(starts).find(|(_, start)| start.minutes == minutes);
+        found.map(|(earlier, _)| own_place - number - 100 * before + earlier)
+    }
+
     /// Gives the value that counts for a point, by looking it up and, failing that, each week in turn.
     fn expected_value(entries: &[u64], status: u8, own_place: u64, until: u64) -> Value {
         if let Some(own) = looked_up(entries, own_place, until) {
             return (own, 0);
         }
-        let day = own_place / 100 % 27759;
         let found: Vec<u64> = [7, 14, 21, 28]
             .iter()
-            .filter(|&&before| before <= day)
-            .filter_map(|before| looked_up(entries, own_place - 100 * before, until))
+            .filter_map(|&before| looked_up(entries, place_before(own_place, before)?, until))
             .collect();
         match (status, found.len() as u64) {
             (0, 0) => (0, 6),
@@ -685,8 +699,8 @@ mod tests {
         }
     }
 
-    #[test]
-    fn evaluations_equal_a_look_up_for_each_point_and_week() {
+    /// Checks evaluations of days a whole number of weeks after the first one by a look-up for each point and week.
+    fn check_by_look_up(first_day: u64, quarters: [u64; 3]) {
         let mut dice = Dice(2463534242);
         let mut seen = [0; 7];
         for (producers, consumers) in [(1, 1), (1, 2), (3, 9), (5, 59), (63, 1)] {
@@ -695,13 +709,14 @@ mod tests {
             let (mut service, mut journal) = (Service::fresh(&registration).unwrap(), vec![0; ENTRY * 2000]);
             for _ in 0..2000 {
                 let (point, day) = (dice.below(points), dice.below(6) * 7 + dice.below(20) / 19);
+                let (day, quarter) = (first_day + day, quarters[dice.below(3) as usize]);
                 let magnitude = dice.below(2) as i64 * dice.below(1000) as i64;
                 let value = magnitude * if point < producers as u64 { 1 } else { -1 };
-                let _ = service.submit(&mut journal, 0, code(point), day, 1 + dice.below(3), value);
+                let _ = service.submit(&mut journal, 0, code(point), day, quarter, value);
             }
             let entries = service.entries(&journal);
             for _ in 0..300 {
-                let (day, quarter) = (dice.below(10) * 7, 1 + dice.below(3));
+                let (day, quarter) = (first_day + dice.below(10) * 7, quarters[dice.below(3) as usize]);
                 let until = dice.below(service.state.last + 1);
                 let (magnitudes, origins): (Vec<u64>, Vec<u64>) = (0..points)
                     .map(|point| (point * 27759 + day) * 100 + quarter - 1)
@@ -720,6 +735,134 @@ mod tests {
     }
 
     #[test]
+    fn evaluations_equal_a_look_up_for_each_point_and_week() {
+        check_by_look_up(0, [1, 2, 3]);
+        for first_day in [69, 279] {
+            check_by_look_up(first_day, [9, 13, 17]);
+        }
+    }
+
+    /// Gives readings of the first consumer at a quarter on each of the days, all with one magnitude.
+    fn withdrawals(days: &[u64], quarter: u64, magnitude: i64) -> Vec<Reading> {
+        let reading = |&day| (CONSUMER, day, quarter, -magnitude);
+        days.iter().map(reading).collect()
+    }
+
+    #[test]
+    fn a_bakery_at_five_has_its_mean_from_five() {
+        for (weeks, (changeover, at_five)) in (1..=4).flat_map(|weeks| [(weeks, (90, 17)), (weeks, (300, 25))]) {
+            let before: Vec<u64> = (1..=weeks).map(|week| changeover - 7 * week).collect();
+            let readings = [
+                withdrawals(&before, 21, 500),
+                withdrawals(&before, 17, 400),
+                withdrawals(&before, 25, 600),
+            ]
+            .concat();
+            let asked = (changeover, at_five, 3 * weeks);
+            check_values(&readings, asked, [NONE, (500, weeks), NONE]);
+            let readings = [
+                withdrawals(&[changeover], at_five, 500),
+                withdrawals(&[changeover], 21, 700),
+            ]
+            .concat();
+            check_values(&readings, (changeover + 7 * weeks, 21, 2), [NONE, (500, 1), NONE]);
+        }
+    }
+
+    #[test]
+    fn a_mean_over_a_changeover_takes_each_week_by_the_wall_clock() {
+        let readings = [
+            (PRODUCER, 76, 21, 1),
+            (PRODUCER, 83, 21, 10),
+            (PRODUCER, 90, 17, 100),
+            (PRODUCER, 90, 21, 5000),
+            (PRODUCER, 97, 21, 1003),
+            (PRODUCER, 97, 17, 7000),
+        ];
+        for (until, value) in [(1, (1, 1)), (2, (6, 2)), (4, (37, 3)), (6, (279, 4))] {
+            check_values(&readings, (104, 21, until), [value, NONE, NONE]);
+        }
+    }
+
+    #[test]
+    fn both_quarters_of_a_doubled_hour_have_the_single_ones_mean() {
+        let days = [272, 279, 286, 293];
+        let mut readings: Vec<Reading> = (9..=20)
+            .flat_map(|quarter| withdrawals(&days, quarter, 10 * quarter as i64))
+            .collect();
+        for (first, second) in (9..=12).zip(13..) {
+            check_values(&readings, (300, first, 48), [NONE, (10 * first, 4), NONE]);
+            check_values(&readings, (300, second, 48), [NONE, (10 * first, 4), NONE]);
+        }
+        for (quarter, value) in [(8, NONE), (17, (130, 4)), (20, (160, 4)), (24, (200, 4)), (25, NONE)] {
+            check_values(&readings, (300, quarter, 48), [NONE, value, NONE]);
+        }
+        readings.extend(withdrawals(&[300], 9, 7));
+        check_values(&readings, (300, 9, 49), [NONE, (7, 0), NONE]);
+        check_values(&readings, (300, 13, 49), [NONE, (90, 4), NONE]);
+    }
+
+    #[test]
+    fn an_earlier_doubled_hour_gives_its_first() {
+        let readings: Vec<Reading> = (9..=20)
+            .flat_map(|quarter| withdrawals(&[300], quarter, 10 * quarter as i64))
+            .collect();
+        for (day, place) in [307, 314, 321, 328]
+            .iter()
+            .flat_map(|&day| (0..4).map(move |place| (day, place)))
+        {
+            check_values(&readings, (day, 9 + place, 12), [NONE, (90 + 10 * place, 1), NONE]);
+            check_values(&readings, (day, 13 + place, 12), [NONE, (170 + 10 * place, 1), NONE]);
+            check_values(&readings, (day, 17 + place, 12), [NONE; 3]);
+            check_values(&readings[4..8], (day, 9 + place, 4), [NONE; 3]);
+            check_values(&readings[4..8], (day, 13 + place, 4), [NONE; 3]);
+        }
+    }
+
+    #[test]
+    fn an_earlier_missing_hour_counts_for_none() {
+        let on_changeover = withdrawals(&[90], 9, 800);
+        for (day, weeks) in (90..).step_by(7).zip(0..=4).skip(1) {
+            for quarter in 9..=12 {
+                check_values(&on_changeover, (day, quarter, 1), [NONE; 3]);
+            }
+            check_values(&on_changeover, (day, 13, 1), [NONE, (800, 1), NONE]);
+            let others: Vec<u64> = (1..=4)
+                .filter(|&week| week != weeks)
+                .map(|week| day - 7 * week)
+                .collect();
+            let readings = [on_changeover.clone(), withdrawals(&others, 9, 20)].concat();
+            check_values(&readings, (day, 9, 4), [NONE, (20, 3), NONE]);
+            let readings = [on_changeover.clone(), withdrawals(&others, 13, 20)].concat();
+            check_values(&readings, (day, 13, 4), [NONE, (215, 4), NONE]);
+        }
+        check_values(&on_changeover, (125, 13, 1), [NONE; 3]);
+    }
+
+    #[test]
+    fn past_stamps_follow_the_wall_clock_and_stay_as_they_are() {
+        for (changeover, at_three) in [(90, 9), (300, 17)] {
+            let (mut service, mut journal) = fresh(20);
+            for value in [40, 50, 60] {
+                service
+                    .submit(&mut journal, 0, PRODUCER, changeover, at_three, value)
+                    .unwrap();
+            }
+            for (stamp, value) in [(0, 0), (1, 40), (2, 50), (3, 60)] {
+                assert_eq!(supply(&service, &journal, changeover + 28, 13, stamp), Ok(value));
+            }
+            service.submit(&mut journal, 0, PRODUCER, changeover, 13, 900).unwrap();
+            service
+                .submit(&mut journal, 0, PRODUCER, changeover + 7, 13, 70)
+                .unwrap();
+            assert_eq!(service.clear(&mut journal, changeover, 2), Ok(1));
+            for (stamp, value) in [(2, 50), (3, 60), (4, 60), (5, 65)] {
+                assert_eq!(supply(&service, &journal, changeover + 28, 13, stamp), Ok(value));
+            }
+        }
+    }
+
+    #[test]
     fn an_earlier_day_without_the_quarter_gives_no_value() {
         let (mut service, mut journal) = fresh(20);
         service.submit(&mut journal, 0, PRODUCER, 83, 96, 40).unwrap();
@@ -732,6 +875,9 @@ mod tests {
         );
         assert_eq!(supply(&service, &journal, 300, 100, 2), Ok(70));
         assert_eq!(supply(&service, &journal, 307, 97, 2), Err(NO_SUCH_DAY));
+        service.submit(&mut journal, 0, PRODUCER, 83, 9, 30).unwrap();
+        service.submit(&mut journal, 0, PRODUCER, 90, 9, 90).unwrap();
+        assert_eq!(supply(&service, &journal, 97, 9, 4), Ok(30));
     }
 
     #[test]
@@ -845,7 +991,8 @@ mod tests {
 
     #[test]
     fn service_and_book_agree() {
-        for seed in 1..40u64 {
+        let around = [(49, [1, 2]), (83, [9, 13]), (293, [9, 13])];
+        for (seed, (first_day, quarters)) in (1..40u64).flat_map(|seed| around.map(|days| (seed, days))) {
             let mut dice = Dice(seed.wrapping_mul(0x9E3779B97F4A7C15));
             let (producers, consumers) = (1 + dice.below(6), 1 + dice.below(6));
             let registration = large_group(producers as usize, consumers as usize, dice.below(2) as u8);
@@ -853,16 +1000,18 @@ mod tests {
             let mut book = Book::new(&registration);
             let mut journal = vec![dice.below(9); 40 + dice.below(400) as usize];
             for _ in 0..3000 {
-                play(&mut dice, &mut service, &mut journal, &mut book);
+                let day = any_number(&mut dice, 6).saturating_mul(7).saturating_add(first_day);
+                let number = any_number(&mut dice, 2);
+                let quarter = *quarters.get(number as usize).unwrap_or(&number);
+                play(&mut dice, &mut service, &mut journal, &mut book, (day, quarter));
                 assert!(!service.damaged(&journal));
             }
         }
     }
 
     /// Plays one call on service and book and compares them.
-    fn play(dice: &mut Dice, service: &mut Service, journal: &mut [u64], book: &mut Book) {
-        let day = any_number(dice, 6).saturating_mul(7).saturating_add(49);
-        let quarter = any_number(dice, 2).saturating_add(1);
+    fn play(dice: &mut Dice, service: &mut Service, journal: &mut [u64], book: &mut Book, asked: (u64, u64)) {
+        let (day, quarter) = asked;
         let stamp = service.state.last.saturating_sub(dice.below(30)) + dice.below(2);
         let before = (*service, journal.to_vec());
         let refused = match dice.below(100) {

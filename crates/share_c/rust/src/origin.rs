@@ -3,7 +3,8 @@
 use std::fmt;
 
 /// The origins, each with its number. Readings up to the evaluation's stamp count, and one of 0 is a reading; an earlier
-/// week's reading is that of the quarter hour of the same number 7, 14, 21 or 28 days before.
+/// week's reading is that of the quarter hour 7, 14, 21 or 28 days before that starts at the same time by the wall clock:
+/// the first, where clocks go back and the hour comes twice; none, where they go forward and it is missing.
 #[derive(Clone, Copy, PartialEq, Eq, Debug)]
 pub enum Origin {
     /// The quarter hour has a reading, which is the value, whatever the point's status.
