@@ -74,7 +74,7 @@ reads() {
 calls=$(listed "The calls")
 texts=$(listed "Text and program")
 changeovers=$(listed "Changeover days")
-reads 980 1080 "$calls" "$calls"
+reads 1050 1150 "$calls" "$calls"
 reads 600 700 "$texts" "$calls
 $texts"
 reads 50 70 "$changeovers" "$calls

@@ -4,9 +4,10 @@ use Rattle.std.proofs.Common.{◌≡◌, ℕ, ◌+◌, ◌-◌, ◌*◌, ◌≤�
 use borrow.Author.Tests.{lt-leb}
 use Rattle.std.specs.Prelude.{Option, None, Some}
 use Rattle.std.specs.Option.{option_map}
-use Rattle.lists.proofs.Cases.{by_test, by_option}
+use Rattle.lists.proofs.Cases.{by_test}
+use Rattle.calendar.specs.Dates.{last_day}
 use Rattle.calendar.specs.Quarters.{quarter_exists}
-use Rattle.calendar.proofs.Laws.{exists_quarter}
+use Rattle.calendar.proofs.Laws.{exists_day, exists_quarter}
 use Rattle.wall_clock.specs.Starts.{quarter_start, first_at}
 use Rattle.wall_clock.proofs.Laws.{found_starts_then}
 use Rattle.lookup.specs.Earlier.{week_days, Slot, slot_on, earlier}
@@ -24,6 +25,13 @@ pub record LiesBefore (weeks day : ℕ) (slot : Slot) : Type 0 where
   pub on : slot.day + week_days * weeks ≡ day
   pub from : 1 ≤ slot.quarter
   pub to : slot.quarter ≤ 100
+
+-- the quarter found by a time is one of a day of the calendar, with a number that a quarter can have
+pub first_at_within : (day minutes quarter : ℕ) → first_at day minutes ≡ Some quarter → (day ≤ last_day) × (1 ≤ quarter) × (quarter ≤ 100)
+first_at_within day minutes quarter e =
+    let exists = (found_starts_then day minutes quarter e).0 in
+    let number = exists_quarter day quarter exists in
+    (exists_day day quarter exists, number.0, number.1)
 
 -- a quarter hour made of a day and a quarter found is of that day and has that number
 slot_is : (day : ℕ) (found : Option ℕ) (slot : Slot) → option_map (slot_on day) found ≡ Some slot → (slot.day ≡ day) × (found ≡ Some slot.quarter)

@@ -77,7 +77,7 @@ fn is_near(first: u64, place: u64) -> bool
 impl Lookup<'_> {
     // The place of a point's quarter hour so many weeks before, at the same time of day by the wall clock: the first of a doubled hour, none of a missing
     // one, and none before day 0.
-    #[tactic(auto, unfolding(crate::specs::Earlier::earlier))]
+    #[tactic(auto, using(crate::proofs::Earlier::first_at_within), unfolding(crate::specs::Earlier::earlier))]
     fn earlier_place(&self, point: u64, weeks: u8) -> Option<u64>
         requires { point < 64 }
         ensures { result ≡ earlier_place point self.now.asked weeks }
