@@ -695,11 +695,11 @@ bakery_group =
     "D 859182400220162071 0" ∷
     "O 859182400220162088 0 1   1 10000" ∷ []
 
--- what the bakery withdrew is missing on a Sunday on which clocks change, or four weeks after one; it is the mean of what it withdrew in earlier weeks when the
--- clock showed the same
+-- what the bakery withdrew is missing on a Sunday on which clocks change, or four weeks after one; what stands in for it is the mean of what it withdrew in
+-- earlier weeks when the clock showed the same
 abbrev pub wall_clock_rows : List Row
 wall_clock_rows =
-    row "the bakery at 05:00 on 31 March 2024, quarter 17: a week before 05:00 was quarter 21, and quarter 17 was 04:00; a correction does not alter the result as of the stamp before it"
+    row "the bakery at 05:00 on 31 March 2024, quarter 17: a week before, 05:00 was quarter 21, and quarter 17 was 04:00; a correction does not alter the result as of the stamp before it"
     (bakery_group ++
     ("M         1000 859182400220162088 20240324  17       -40" ∷
     "M         1000 859182400220162088 20240324  21      -300" ∷
@@ -731,7 +731,7 @@ wall_clock_rows =
     "W   1 0" ∷
     "W   2 1" ∷ [])
     ∷
-    row "the bakery at 05:00 on 27 October 2024, quarter 25: a week before 05:00 was quarter 21, and quarter 25 was 06:00"
+    row "the bakery at 05:00 on 27 October 2024, quarter 25: a week before, 05:00 was quarter 21, and quarter 25 was 06:00"
     (bakery_group ++
     ("M         1000 859182400220162088 20241020  21      -300" ∷
     "M         1000 859182400220162088 20241020  25       -40" ∷
@@ -747,7 +747,7 @@ wall_clock_rows =
     "W   1 0" ∷
     "W   2 1" ∷ [])
     ∷
-    row "02:15 for the first and the second time on 27 October 2024, quarters 10 and 14: a week before 02:15 was quarter 10, and quarter 14 was 03:15"
+    row "02:15 for the first and the second time on 27 October 2024, quarters 10 and 14: a week before, 02:15 was quarter 10, and quarter 14 was 03:15"
     (bakery_group ++
     ("M         1000 859182400220162088 20241020  10      -120" ∷
     "M         1000 859182400220162088 20241020  14       -90" ∷
@@ -789,7 +789,7 @@ wall_clock_rows =
     "W   1 6" ∷
     "W   2 1" ∷ [])
     ∷
-    row "24 November 2024, four weeks after 02:00 to 02:45 came twice: quarter 10, 02:15, takes the first, and quarter 14, 03:15, is matched with quarter 18"
+    row "24 November 2024, four weeks after 02:00 to 02:45 came twice: quarter 10, 02:15, is the mean of the first on 27 October and of 17 November, and quarter 14, 03:15, takes quarter 18 of 27 October"
     (bakery_group ++
     ("M         1000 859182400220162088 20241027  10       -80" ∷
     "M         1000 859182400220162088 20241027  14       -20" ∷

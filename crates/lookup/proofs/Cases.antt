@@ -1,5 +1,5 @@
 -- The value of a point and its origin at the edges of the rules for a missing reading, with all numbers worked out by hand, as of stamp 1000: of quarter 40
--- on days without a changeover in their weeks, and of any quarter where there is one. By one test that is computed over the rows of a table.
+-- on days without a changeover in their weeks, and of any quarter on the two changeover days of 2024 and up to five weeks after them. By one test that is computed over the rows of a table.
 -- Assumes nothing.
 use Rattle.std.proofs.Common.{◌≡◌, ℕ, cond, ◌&&◌, eqb, List, [], ◌∷◌, ◌++◌, map, refl}
 use Rattle.journal.specs.Order.{Reading, weaker}
@@ -36,7 +36,8 @@ readings_in (read ∷ reads) day quarter =
     (record { stamp = read.stamp; value = record { magnitude = read.magnitude } } ∷ readings_in reads day quarter)
     (readings_in reads day quarter)
 
--- the status of the point, the day and quarter, its readings, and the value and the number of its origin that the paper gives
+-- the status of the point, the day and quarter, its readings, and the value and the number of its origin that the paper gives, or the request
+-- on the wall clock
 record Row : Type 0 where
   status : ℕ
   day : ℕ
@@ -168,7 +169,7 @@ october =
 rows : List Row
 rows = single ++ (statuses ++ (means ++ (first_days ++ (march ++ october))))
 
--- values and origins of the definitions are those of the paper
+-- values and origins of the definitions are those of the paper and of that request
 cases : map computed rows ≡ map (λ (row : Row). row.value) rows
 unfolding rows single statuses means first_days march october looked_up existing sum_of nearest earlier shown weaker first_at first_up_to start_after quarters_of last_sunday year_of year_length month_length days_before_year days_before_month last_up_to
 cases = refl

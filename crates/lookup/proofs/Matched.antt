@@ -1,10 +1,13 @@
--- The same time of day in an earlier week: wherever a quarter starts alike the first of these is matched; the match by quarter numbers; and where no clock
--- changes it is that of the same number, so that nothing alters. Assumes nothing.
-use Rattle.std.proofs.Common.{◌≡◌, ℕ, ◌+◌, ◌-◌, ◌*◌, ◌≤◌, true, leb, List, sym, ap, subst, ◌∙◌, arith, leb-true, leb-false}
+-- The same time of day in an earlier week: wherever a quarter starts alike the first of these is matched; the match by quarter numbers, of which a day and the
+-- earlier one have one case always; and where no clock changes it is that of the same number, so that nothing alters. Assumes nothing.
+use Rattle.std.proofs.Common.{◌≡◌, ℕ, ◌+◌, ◌-◌, ◌*◌, ◌≤◌, ◌<◌, true, leb, ltb, eqb, List, sym, ap, subst, ◌∙◌, arith, leb-true, leb-false, ltb-true, ltb-false, eqb-true}
+use borrow.Author.Tests.{eqb-false}
 use Rattle.std.specs.Prelude.{None, Some}
 use Rattle.lists.proofs.Cases.{by_test}
 use Rattle.calendar.specs.Dates.{last_day}
 use Rattle.calendar.specs.Quarters.{quarters_of, quarter_exists}
+use Rattle.calendar.specs.Changeovers.{changeover_count, changeover_day}
+use Rattle.calendar.proofs.Entries.{entries_apart}
 use Rattle.calendar.proofs.Laws.{other_days, short_days_at_even_places, long_days_at_odd_places, exists_day, exists_among}
 use Rattle.wall_clock.specs.Starts.{passed_at, start_after, quarter_start, first_in}
 use Rattle.wall_clock.proofs.Minutes.{short_early, short_late, long_early, long_late, ordinary_minutes}
@@ -14,8 +17,14 @@ use Rattle.journal.specs.Order.{Reading}
 use Rattle.lookup.specs.Earlier.{slot_on, earlier}
 use Rattle.lookup.specs.Substitutes.{weeks_before, looked_up}
 use Rattle.lookup.specs.ByNumber.{same_number, weeks_by_number, looked_up_by_number, NoChangeover, NoneOfFive}
-use Rattle.lookup.specs.Laws.{AlikeIsMatched, MatchesNumber, MatchByNumbers, UnchangedLookUp}
+use Rattle.lookup.specs.Laws.{AlikeIsMatched, MatchesNumber, MatchByNumbers, OneHas96, UnchangedLookUp}
 use Rattle.lookup.proofs.Earlier.{earlier_found, none_before_day_zero}
+
+-- a day stands in the table of changeover days
+record InTable (day : ℕ) : Type 0 where
+  place : ℕ
+  within : place < changeover_count
+  entry : changeover_day place ≡ day
 
 pub alike_is_matched : AlikeIsMatched
 alike_is_matched weeks day quarter other h e s =
@@ -99,6 +108,34 @@ match_by_numbers weeks day quarter exists h =
       of_long = before_long weeks day quarter exists h;
       of_long_on = after_long weeks day quarter exists h;
     }
+
+-- ---- changeover days
+-- a day of the calendar that has not 96 quarters stands in the table
+stands_in_table : (day : ℕ) → day ≤ last_day → (quarters_of day ≡ 96 → ⊥) → InTable day
+stands_in_table day h other =
+    by_test (eqb (quarters_of day) 92)
+    (λ t. let s = (short_days_at_even_places day).0 (eqb-true (quarters_of day) 92 t) in record { place = s.place; within = s.within; entry = s.entry })
+    (λ s.
+    by_test (eqb (quarters_of day) 100)
+    (λ t. let s = (long_days_at_odd_places day).0 (eqb-true (quarters_of day) 100 t) in record { place = s.place; within = s.within; entry = s.entry })
+    (λ l. absurd (other (other_days day h (eqb-false (quarters_of day) 92 s) (eqb-false (quarters_of day) 100 l)))))
+
+pub one_has_96 : OneHas96
+one_has_96 weeks day one few h within other =
+    by_test (eqb (quarters_of (day - 7 * weeks)) 96)
+    (λ t. eqb-true (quarters_of (day - 7 * weeks)) 96 t)
+    (λ f.
+    let later = stands_in_table day within other in
+    let before = stands_in_table (day - 7 * weeks) (omega arith) (eqb-false (quarters_of (day - 7 * weeks)) 96 f) in
+    by_test (ltb before.place later.place)
+    (λ t. let apart = entries_apart before.place later.place (ltb-true before.place later.place t) later.within in absurd (omega (arith, before.entry, later.entry)))
+    (λ u.
+    by_test (ltb later.place before.place)
+    (λ t. let apart = entries_apart later.place before.place (ltb-true later.place before.place t) before.within in absurd (omega (arith, before.entry, later.entry)))
+    (λ v.
+    let same : later.place ≡ before.place = omega (arith, ltb-false before.place later.place u, ltb-false later.place before.place v) in
+    let days : changeover_day later.place ≡ changeover_day before.place = ap changeover_day same in
+    absurd (omega (arith, before.entry, later.entry, days)))))
 
 -- ---- where no clock changes
 -- a day of the calendar that does not stand in the table has 96 quarters

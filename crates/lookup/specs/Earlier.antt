@@ -20,6 +20,6 @@ slot_on day quarter = record { day = day; quarter = quarter }
 abbrev pub matched : (before day quarter : ℕ) → Option Slot
 matched before day quarter = option_map (slot_on before) (first_at before (quarter_start day quarter).minutes)
 
--- the same time of day so many weeks before; none lies before day 0
+-- the same time of day so many weeks before, of a quarter that the day has, since no other is asked for; none lies before day 0
 unfoldable pub earlier : (weeks day quarter : ℕ) → Option Slot
 earlier weeks day quarter = cond (nat_le (week_days * weeks) day) (matched (day - week_days * weeks) day quarter) None

@@ -1,6 +1,7 @@
 -- What users of a look-up rely on, stated of its definitions; the proofs stand in proofs/Earlier.antt, proofs/Matched.antt, proofs/Laws.antt and
 -- proofs/Origins.antt. Assumes nothing.
 use Rattle.std.specs.Prelude.{◌≡◌, ℕ, ◌+◌, ◌-◌, ◌*◌, ◌<◌, ◌≤◌, true, cond, List, [], ◌∷◌, ◌++◌, length, nat_le, Option, None, Some}
+use Rattle.calendar.specs.Dates.{last_day}
 use Rattle.calendar.specs.Quarters.{quarters_of, quarter_exists}
 use Rattle.journal.specs.Order.{Reading}
 use Rattle.journal.specs.Readings.{shown}
@@ -44,26 +45,26 @@ AlikeIsMatched =
     (weeks day quarter other : ℕ) → 7 * weeks ≤ day → quarter_exists (day - 7 * weeks) other ≡ true
     → (quarter_start (day - 7 * weeks) other).minutes ≡ (quarter_start day quarter).minutes → MatchedUpTo weeks day quarter other
 
--- so many weeks before a quarter is matched with one of a number
+-- a quarter is matched, so many weeks before, with the quarter of this number
 abbrev pub MatchesNumber : (weeks day quarter number : ℕ) → Type 0
 MatchesNumber weeks day quarter number = earlier weeks day quarter ≡ Some (slot_on (day - 7 * weeks) number)
 
--- the match by quarter numbers, where a day and the earlier one have so many quarters and one of them at least has 96; up to four weeks before that is always
--- so, by `EntriesApart` of `calendar`
+-- the match by quarter numbers, where a day and the earlier one have so many quarters and one of them at least has 96, as from one to four weeks before
+-- one always has (`OneHas96`)
 pub record MatchedNumbers (weeks day quarter quarters quarters_before : ℕ) : Type 0 where
   -- no clock changes on either: the same number
   pub neither : quarters ≡ 96 → quarters_before ≡ 96 → MatchesNumber weeks day quarter quarter
-  -- on a day with 92, from its ninth quarter on, 03:00, four numbers on in an ordinary week
+  -- of a day with 92 the first eight quarters keep their number in an ordinary week; from the ninth on, 03:00, it is four more
   pub short : quarters ≡ 92 → quarters_before ≡ 96 → quarter ≤ 8 → MatchesNumber weeks day quarter quarter
   pub short_on : quarters ≡ 92 → quarters_before ≡ 96 → 9 ≤ quarter → MatchesNumber weeks day quarter (quarter + 4)
-  -- on a day with 100, from its 13th on, the second 02:00, four numbers back
+  -- of a day with 100 the first twelve keep it, the first 02:00 to 02:45 among them; from the 13th on, the second 02:00, it is four less
   pub long : quarters ≡ 100 → quarters_before ≡ 96 → quarter ≤ 12 → MatchesNumber weeks day quarter quarter
   pub long_back : quarters ≡ 100 → quarters_before ≡ 96 → 13 ≤ quarter → MatchesNumber weeks day quarter (quarter - 4)
-  -- an earlier day with 92 has no quarter from 02:00 to 02:45, and its later ones are four numbers back
+  -- on an earlier day with 92 the first eight have the same number; there is none from 02:00 to 02:45; from 03:00 on it is four less
   pub of_short : quarters ≡ 96 → quarters_before ≡ 92 → quarter ≤ 8 → MatchesNumber weeks day quarter quarter
   pub of_short_none : quarters ≡ 96 → quarters_before ≡ 92 → 9 ≤ quarter → quarter ≤ 12 → earlier weeks day quarter ≡ None
   pub of_short_back : quarters ≡ 96 → quarters_before ≡ 92 → 13 ≤ quarter → MatchesNumber weeks day quarter (quarter - 4)
-  -- an earlier day with 100 gives its first 02:00 to 02:45, and its later quarters are four numbers on
+  -- on an earlier day with 100 the first twelve have the same number, which is the first of its two for 02:00 to 02:45; from 03:00 on it is four more
   pub of_long : quarters ≡ 96 → quarters_before ≡ 100 → quarter ≤ 12 → MatchesNumber weeks day quarter quarter
   pub of_long_on : quarters ≡ 96 → quarters_before ≡ 100 → 13 ≤ quarter → MatchesNumber weeks day quarter (quarter + 4)
 
@@ -72,6 +73,12 @@ abbrev pub MatchByNumbers : Type 0
 MatchByNumbers =
     (weeks day quarter : ℕ) → quarter_exists day quarter ≡ true → 7 * weeks ≤ day
     → MatchedNumbers weeks day quarter (quarters_of day) (quarters_of (day - 7 * weeks))
+
+-- of a day and the day one to four weeks before it one at least has 96 quarters: where the first has not, the other has
+abbrev pub OneHas96 : Type 0
+OneHas96 =
+    (weeks day : ℕ) → 1 ≤ weeks → weeks ≤ 4 → 7 * weeks ≤ day → day ≤ last_day
+    → (quarters_of day ≡ 96 → ⊥) → quarters_of (day - 7 * weeks) ≡ 96
 
 -- of a week before day 0 there is no match
 abbrev pub NoneBeforeDayZero : Type 0
@@ -96,7 +103,7 @@ magnitude_in readings day T None = []
 magnitude_in readings day T (Some quarter) = magnitude_shown (shown T (readings day quarter))
 
 -- the magnitude shown as of T so many days before a day, in the first quarter with the same wall-clock start; none where that day has no such quarter, or lies
--- before day 0
+-- before day 0. Written out by days, so that the law does not follow the definition of the match
 abbrev pub shown_before : (days : ℕ) → (readings : ℕ → ℕ → List Reading) → (day quarter T : ℕ) → List ℕ
 shown_before days readings day quarter T =
     cond (nat_le days day) (magnitude_in readings (day - days) T (first_at (day - days) (quarter_start day quarter).minutes)) []

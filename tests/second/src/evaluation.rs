@@ -18,7 +18,7 @@ const ZERO_BY_STATUS: u64 = 5;
 const ZERO_FOR_LACK: u64 = 6;
 
 /// Gives the day and quarter that match a day's quarter a number of weeks earlier, if there are such: the first quarter
-/// of that day that starts at the same time by the wall clock.
+/// of the earlier day that starts at the same time by the wall clock.
 pub fn weeks_earlier(weeks: u64, day: u64, quarter: u64) -> Option<(u64, u64)> {
     let earlier_day = day.checked_sub(7 * weeks)?;
     let start = calendar::wall_clock_start(day, quarter)?;

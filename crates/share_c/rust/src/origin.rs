@@ -4,7 +4,8 @@ use std::fmt;
 
 /// The origins, each with its number. Readings up to the evaluation's stamp count, and one of 0 is a reading; an earlier
 /// week's reading is that of the quarter hour 7, 14, 21 or 28 days before that starts at the same time by the wall clock:
-/// the first, where clocks go back and the hour comes twice; none, where they go forward and it is missing.
+/// the first of the two where clocks went back on that day and the time came twice; there is none where they went forward
+/// and the time was left out.
 #[derive(Clone, Copy, PartialEq, Eq, Debug)]
 pub enum Origin {
     /// The quarter hour has a reading, which is the value, whatever the point's status.
