@@ -141,9 +141,9 @@ one_has_96 weeks day one few h within other =
 -- a day of the calendar that does not stand in the table has 96 quarters
 ordinary_day : (day : ℕ) → day ≤ last_day → NoChangeover day → quarters_of day ≡ 96
 ordinary_day day h n =
-    other_days day h
-    (λ e. let s = (short_days_at_even_places day).0 e in n s.place s.within s.entry)
-    (λ e. let s = (long_days_at_odd_places day).0 e in n s.place s.within s.entry)
+    by_test (eqb (quarters_of day) 96)
+    (λ t. eqb-true (quarters_of day) 96 t)
+    (λ f. let s = stands_in_table day h (eqb-false (quarters_of day) 96 f) in absurd (n s.place s.within s.entry))
 
 -- a quarter hour that exists, where clocks change on none of the five days
 module _ (day quarter : ℕ) (exists : quarter_exists day quarter ≡ true) (none_of_five : NoneOfFive day) where
