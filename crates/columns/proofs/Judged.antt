@@ -4,7 +4,7 @@ use mathlib.Core.Path.{◌≡◌, refl, sym, ◌∙◌}
 use mathlib.Core.Bool.{Bool, true, false, not, ◌&&◌}
 use mathlib.Core.List.{List}
 use native.Mathlib.Omega.{arith}
-use borrow.Author.Tests.{eqb-true, leb-true}
+use borrow.Author.Tests.{eqb-true, leb-true, lt-leb}
 use lib.Dec.{leb, eqb}
 use lib.ListN.{length, get_or}
 use Rattle.std.specs.Prelude.{Option, None, Some}
@@ -20,6 +20,11 @@ number_given false v n e = let z : ◌≡◌ {A = ℕ} 0 1 = cc in absurd (omega
 not_given : (t : Bool) (v : ℕ) → number_if t v ≡ None → t ≡ false
 not_given true v e = let z : ◌≡◌ {A = ℕ} 0 1 = cc in absurd (omega arith)
 not_given false v e = refl
+
+-- a column that is too wide is no value's, whatever stands in it
+pub too_wide : (column : List ℕ) → widest < length column → None ≡ signed_in column
+unfolding signed_in
+too_wide column h = rw (lt-leb (length column) widest h)
 
 -- the number in a column, with a minus or not as the column has one
 module _ (column : List ℕ) (minus : Bool) (m : minus ≡ has_minus column) (answer : Option ℕ)

@@ -121,6 +121,9 @@ pub fn read_number(column: &[u8]) -> Option<u64>
 pub fn read_signed(column: &[u8]) -> Option<i64>
     ensures { result ≡ signed_in column.now }
 {
+    if column.len() > WIDEST {
+        return None;
+    }
     let minus = column.contains(&MINUS);
     let value = read_digits(column, minus)? as i64;
     match (minus, value) {

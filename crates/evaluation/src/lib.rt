@@ -103,11 +103,16 @@ fn put_parts(
     put_origins(&mut page, values);
 }
 
-// The magnitudes of the points' values: of all 64, as they are looked up.
-fn magnitudes(values: [PointValue; 64]) -> [u64; 64]
-    ensures { (point : ℕ) → point < 64 → get_or result point 0 ≡ (value_of_point values point).magnitude }
+// The magnitudes of the points' values: of all 64, as they are looked up. By number, and not by the library's `map`, which is slower here: it takes the
+// values as a copy.
+fn magnitudes(values: &[PointValue; 64]) -> [u64; 64]
+    ensures { (point : ℕ) → point < 64 → get_or result point 0 ≡ (value_of_point values.now point).magnitude }
 {
-    values.map(|value| value.magnitude)
+    let mut magnitudes = [0; 64];
+    for (point, value) in values.iter().enumerate() {
+        magnitudes[point] = value.magnitude;
+    }
+    magnitudes
 }
 
 // The result of a look-up's quarter hour, put into the result list, whose later numbers stay. Returns the round count.
@@ -117,7 +122,7 @@ pub fn evaluate(registration: &Registration, lookup: Lookup, list: &mut [u64]) -
 {
     let points = registration.points();
     let values = lookup.values(&registration.statuses[..points]);
-    let allocated = allocation::allocate(registration, &magnitudes(values));
+    let allocated = allocation::allocate(registration, &magnitudes(&values));
     put_parts(list, registration, &allocated, &values[..points]);
     allocated.rounds
 }

@@ -8,10 +8,13 @@ use lib.Dec.{eqb}
 use Rattle.std.specs.Prelude.{Some}
 use Rattle.std.proofs.Common.{rules}
 use Rattle.columns.specs.Column.{signed_if, signed_in}
-use Rattle.columns.proofs.Judged.{signed_refused, value_fits, signed_judged}
+use Rattle.columns.proofs.Judged.{too_wide, signed_refused, value_fits, signed_judged}
 use Rattle.values.proofs.Signs.{stays, negation_fits, negation_read}
 use Rattle.columns.proofs.read_signed.Goals as goal
 use Rattle.columns.proofs.read_signed.Goals.{In_ok-value}
+
+pub returns-then-column-gt-WIDEST : goal.returns-then-column-gt-WIDEST
+returns-then-column-gt-WIDEST c = too_wide c.args.column.now (omega arith)
 
 pub returns-in_err-value : goal.returns-in_err-value
 returns-in_err-value c = c.from_residual.ensures ∙ signed_refused c.args.column.now _ c.contains-minus.ensures.value _ c.read_digits.ensures c.in_err-value.was
