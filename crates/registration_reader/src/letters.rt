@@ -1,5 +1,5 @@
 // The lines of the letters G, D and O: each is read into the registration, or refused.
-ghost use Rattle.std.specs.Prelude.{◌≡◌, ℕ, ◌+◌, ◌*◌, ◌≤◌, ◌<◌, length, OnOk, Ok, Some, MatchOption};
+ghost use Rattle.std.specs.Prelude.{◌≡◌, ℕ, ◌+◌, ◌*◌, ◌≤◌, ◌<◌, length, OnOk, OnErr, Ok, Some, IfSome, MatchOption};
 ghost use Rattle.std.specs.Result.{result_and};
 ghost use Rattle.columns.specs.Fields.{nth, numbers_in};
 ghost use Rattle.lines.specs.Lines.{line_in};
@@ -41,7 +41,7 @@ fn put_point(registration: &mut Registration, point: usize, code: u64, status: u
     registration.statuses[point] = status;
 }
 
-// Reads a producer's D line into the registration.
+// Reads a producer's D line into the registration, which a refused line leaves as it was.
 #[tactic(auto, using(answers::proofs::Refusals::refusals), unfolding(registration_text::specs::Reader::verdict_d))]
 pub fn read_producer(
     line: &[u8],
@@ -51,6 +51,7 @@ pub fn read_producer(
     requires { producer < 64 }
     ensures verdict { result ≡ verdict_d (line_in letter_d widths_d line.now) }
     ensures stored { let numbers = line_in letter_d widths_d line.now in OnOk result (registration.new ≡ with_point registration.old producer (nth 0 numbers) (nth 1 numbers)) }
+    ensures unaltered { OnErr result (registration.new ≡ registration.old) }
 {
     let [code, status] = PRODUCER.read(line).ok_or(Refusal::NotInColumns)?;
     if status > u64::from(Registration::STATUS_MOST) {
@@ -121,7 +122,7 @@ fn put_pairs(registration: &mut Registration, consumer: usize, pairs: &[Pair])
     }
 }
 
-// Reads a consumer's O line into the registration.
+// Reads a consumer's O line into the registration, which a refused line leaves as it was.
 #[tactic(auto, using(answers::proofs::Refusals::refusals), unfolding(registration_text::specs::Reader::verdict_o))]
 pub fn read_consumer(
     line: &[u8],
@@ -131,6 +132,7 @@ pub fn read_consumer(
     requires { registration.old.producers + consumer < 64 }
     ensures verdict { let fixed = fixed_in line.now in result ≡ verdict_o registration.old.producers fixed (rest_in (nth 2 fixed) line.now) }
     ensures stored { let fixed = fixed_in line.now in OnOk result (registration.new ≡ with_consumer registration.old consumer fixed (rest_in (nth 2 fixed) line.now)) }
+    ensures unaltered { OnErr result (registration.new ≡ registration.old) }
 {
     let [code, status, number] = read_fixed(line).ok_or(Refusal::NotInColumns)?;
     if !(1..=Registration::SOURCES as u64).contains(&number) {
