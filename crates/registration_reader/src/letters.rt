@@ -1,9 +1,9 @@
 // The lines of the letters G, D and O: each is read into the registration, or refused.
-ghost use Rattle.std.specs.Prelude.{◌≡◌, ℕ, ◌+◌, ◌*◌, ◌≤◌, ◌<◌, length, OnOk, OnErr, Ok, Some, IfSome, MatchOption};
+ghost use Rattle.std.specs.Prelude.{◌≡◌, ℕ, ◌+◌, ◌*◌, ◌≤◌, ◌<◌, length, get_or, OnOk, OnErr, Ok, Some, IfSome, MatchOption};
 ghost use Rattle.std.specs.Result.{result_and};
 ghost use Rattle.columns.specs.Fields.{nth, numbers_in};
 ghost use Rattle.lines.specs.Lines.{line_in};
-ghost use Rattle.registration.specs.Rules.{source_in, key_in};
+ghost use Rattle.registration.specs.Rules.{no_pair, source_in, key_in};
 ghost use Rattle.registration_text.specs.Lines.{letter_g, letter_d, widths_g, widths_d, widths_of_pairs, pairs_from};
 ghost use Rattle.registration_text.specs.Reader.{fixed_in, rest_in, verdict_g, verdict_d, verdict_o, with_counts, with_point, with_count, with_pairs, with_consumer};
 
@@ -81,7 +81,8 @@ fn read_fixed(line: &[u8]) -> Option<[u64; 3]>
 fn read_pairs(bytes: &[u8], count: usize) -> Option<[Pair; 5]>
     requires count_bound { count ≤ 5 }
     requires count_in_bounds { 10 * count ≤ length bytes.now }
-    ensures { let numbers = numbers_in (widths_of_pairs count) bytes.now in MatchOption result (numbers ≡ None) (λ pairs. numbers ≡ Some (pairs_from (source_in pairs) (key_in pairs) 0 count)) }
+    ensures numbers { let numbers = numbers_in (widths_of_pairs count) bytes.now in MatchOption result (numbers ≡ None) (λ pairs. numbers ≡ Some (pairs_from (source_in pairs) (key_in pairs) 0 count)) }
+    ensures after { IfSome result (λ pairs. (k : ℕ) → count ≤ k → k < 5 → get_or pairs k no_pair ≡ no_pair) }
 {
     let mut pairs = [Pair::NONE; 5];
     let mut rest = bytes;
@@ -98,7 +99,8 @@ fn read_pairs(bytes: &[u8], count: usize) -> Option<[Pair; 5]>
 #[tactic(auto, using(lines::proofs::Parts::tail_part), unfolding(registration_text::specs::Reader::rest_in))]
 fn read_rest(line: &[u8], count: usize) -> Option<[Pair; 5]>
     requires { count ≤ 5 }
-    ensures { let numbers = rest_in count line.now in MatchOption result (numbers ≡ None) (λ pairs. numbers ≡ Some (pairs_from (source_in pairs) (key_in pairs) 0 count)) }
+    ensures numbers { let numbers = rest_in count line.now in MatchOption result (numbers ≡ None) (λ pairs. numbers ≡ Some (pairs_from (source_in pairs) (key_in pairs) 0 count)) }
+    ensures after { IfSome result (λ pairs. (k : ℕ) → count ≤ k → k < 5 → get_or pairs k no_pair ≡ no_pair) }
 {
     let end = FIXED_BYTES + PAIR_BYTES * count;
     if line.len() != end + 1 || line[end] != lines::LINE_FEED {

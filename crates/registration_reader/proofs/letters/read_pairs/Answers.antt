@@ -11,8 +11,8 @@ use Rattle.registration_reader.proofs.letters.read_pairs.Goals as goal
 pub loop-pair-init : goal.loop-pair-init
 loop-pair-init c = (search rules, omega arith, rw sub-zero (pairs_begin _ _))
 
-pub returns-in_err-source : goal.returns-in_err-source
-returns-in_err-source c =
+pub returns-in_err-source-clause-numbers : goal.returns-in_err-source-clause-numbers
+returns-in_err-source-clause-numbers c =
     let at = c.loop-pair in
     rw c.from_residual.ensures (sym at.invariant.2 ∙ pair_none at.rest.now c.args.count at.pair-index (omega arith) _ (sym c.read_columns.ensures ∙ c.in_err-source.was))
 
@@ -24,5 +24,5 @@ loop-pair-preserved c =
       rw tail_part (sym (pair_next at.pair-items at.pair-index _ (omega arith) at.rest.now c.in_ok-source.field-0 c.args.count (omega arith) (sym c.read_columns.ensures ∙ c.in_ok-source.was) refl) ∙ at.invariant.2),
     )
 
-pub returns : goal.returns
-returns c = let at = c.loop-pair in sym at.invariant.2 ∙ pairs_end at.pair-items _ at.rest.now c.args.count at.pair-index (omega arith) at.invariant.0
+pub returns-clause-numbers : goal.returns-clause-numbers
+returns-clause-numbers c = let at = c.loop-pair in sym at.invariant.2 ∙ pairs_end at.pair-items _ at.rest.now c.args.count at.pair-index (omega arith) at.invariant.0

@@ -8,12 +8,12 @@ use Rattle.lines.proofs.Parts.{tail_part}
 use Rattle.registration_text.specs.Reader.{rest_in}
 use Rattle.registration_reader.proofs.letters.read_rest.Goals as goal
 
-pub returns : goal.returns
+pub returns-clause-numbers : goal.returns-clause-numbers
 unfolding rest_in
-returns c =
+returns-clause-numbers c =
     let line = c.args.line.now in
     let count = c.args.count in
     let size : length line ≡ 10 * count + 25 = omega arith in
     let place : 24 + 10 * count ≡ 10 * count + 24 = omega arith in
     let end : get_or line (10 * count + 24) 0 ≡ 10 = rw place at c.if-line-end-ne-LINE_FEED.false in
-    rw (eq-eqb (length line) (10 * count + 25) size, eq-eqb (get_or line (10 * count + 24) 0) 10 end) (rw tail_part at c.read_pairs.ensures)
+    rw (eq-eqb (length line) (10 * count + 25) size, eq-eqb (get_or line (10 * count + 24) 0) 10 end) (rw tail_part at c.read_pairs.ensures.numbers)
