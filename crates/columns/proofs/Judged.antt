@@ -12,6 +12,18 @@ use Rattle.columns.specs.Column.{value_from, is_column, has_minus, number_if, si
 use Rattle.lists.proofs.Below.{both}
 use Rattle.columns.proofs.Values.{value_room, most}
 
+-- a column is not too wide, and begins with a space
+abbrev pub begins : List ℕ → Bool
+begins column = leb (length column) widest && eqb (get_or column 0 0) space_byte
+
+-- the value of such a column, whatever its other bytes are, fits an i64 with either sign
+pub begun_fits : (column : List ℕ) → begins column ≡ true → value_from 0 column < 10 ^ 18
+begun_fits column b =
+    let s = both (leb (length column) widest) _ b in
+    let l : length column ≤ widest = leb-true _ _ s.0 in
+    let v = (value_room column (eqb-true _ _ s.1)).1 in
+    omega (arith, most (length column - 1) 18 (omega arith))
+
 -- a number that is given was in its column
 number_given : (t : Bool) (v n : ℕ) → number_if t v ≡ Some n → (t ≡ true) × (v ≡ n)
 number_given true v n e = (refl, cc)

@@ -18,21 +18,31 @@ use Rattle.lists.specs.Tables.{joined, table}
 use Rattle.lists.proofs.Below.{sum_next}
 use Rattle.lists.proofs.Chains.{table_take}
 use Rattle.lists.proofs.Sums.{sum_more}
-use Rattle.lists.proofs.TableLaws.{table_same}
+use Rattle.lists.proofs.TableLaws.{table_same, length_table}
 use Rattle.lists.proofs.Those.{map_append}
 use Rattle.registration.specs.declared.Registration.{Registration}
-use Rattle.registration.specs.Rules.{count_at}
+use Rattle.registration.specs.Rules.{points, count_at, place_at}
 use Rattle.registration.specs.Pairs.{pairs_before, pairs_in}
+use Rattle.allocation.specs.declared.Allocated.{Allocated}
+use Rattle.allocation.proofs.Pairs.{pairs_length}
 use Rattle.lookup.specs.declared.PointValue.{PointValue}
 use Rattle.lookup.specs.Substitutes.{number_of_origin}
 use Rattle.evaluation.specs.Evaluation.{Result}
 use Rattle.evaluation.specs.Layout.{Part, Shares, Withdrawals, Supplies, Origins, length_of, begin_of, size_of, part_in, part_of, result_of, HasLengths}
-use Rattle.evaluation.specs.Working.{origins_of}
+use Rattle.evaluation.specs.Working.{origins_of, result_in}
 
 -- the shares of a consumer are among those of all consumers
 pub shares_there : (r : Registration) (consumer : ℕ) → consumer < r.consumers → pairs_before r consumer + count_at r consumer ≤ pairs_in r
 shares_there r consumer h =
     omega (arith, sum_next (count_at r) consumer, sum_more (count_at r) (consumer + 1) r.consumers (omega arith))
+
+module _ (r : Registration) (allocated : Allocated) (origins : List ℕ) where
+  -- the parts that the working arrays hold, with an origin for each point
+  pub lengths_in : length origins ≡ points r → HasLengths r (result_in r allocated origins)
+  lengths_in e Shares = omega (arith, pairs_length r (place_at allocated.shares))
+  lengths_in e Withdrawals = omega (arith, length_table (λ point. get_or allocated.left (r.producers + point) 0) r.consumers)
+  lengths_in e Supplies = omega (arith, length_table (λ point. get_or allocated.left point 0) r.producers)
+  lengths_in e Origins = e
 
 -- the numbers of a slice
 slice_table : (numbers : List ℕ) (at n : ℕ) → at + n ≤ length numbers → take (at + n - at) (drop at numbers) ≡ table (λ i. get_or numbers (at + i) 0) n

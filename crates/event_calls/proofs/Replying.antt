@@ -1,5 +1,5 @@
 -- The reply to an event: the refusal where it asks for no call, otherwise what its call leaves and answers. Assumes nothing.
-use Rattle.std.proofs.Common.{ℕ, ◌≡◌, refl, sym, List, ◌++◌, append-nil, true, false, Option, None, Some, Result, Ok, Err}
+use Rattle.std.proofs.Common.{ℕ, ◌≡◌, refl, sym, ◌∙◌, List, ◌++◌, append-nil, true, false, Option, None, Some, Result, Ok, Err}
 use Rattle.std.specs.Result.{result_and, result_unwrap_or, is_ok}
 use Rattle.answers.specs.declared.Refusal.{Refusal}
 use Rattle.answers.specs.declared.Refusal.TheVariants.{NoSuchDay}
@@ -23,6 +23,13 @@ use Rattle.event_reader.specs.declared.Event.TheVariants.{Submission, Clear, Eva
 use Rattle.event_writer.specs.Answers.{line_a, line_r, lines_of_result}
 use Rattle.event_calls.specs.Replies.{on_day, measured, call_of, refusal_text, answer_text, result_text, evaluation_text, call_text, result_list, reply_with, reply_of}
 use Rattle.event_calls.specs.Promises.{Calls, Evaluated, Replied}
+
+-- a date that does not exist, and the day of one that does
+pub no_call_lem : {d : Option ℕ} (date : ℕ) (call : ℕ → Call) → d ≡ day_of date → d ≡ None → on_day (day_of date) call ≡ None
+no_call_lem date call e f = rw (sym e ∙ f)
+
+pub call_on_lem : {d : Option ℕ} (date : ℕ) {day : ℕ} (call : ℕ → Call) → d ≡ day_of date → d ≡ Some day → on_day (day_of date) call ≡ Some (call day)
+call_on_lem date call e f = rw (sym e ∙ f)
 
 -- the call of an E line on a day, and what is seen of it
 abbrev asked_on : EvaluationLine → (day : ℕ) → Call

@@ -4,4 +4,5 @@ pub mod Tests
 pub mod Admitted
 pub mod Laws
 pub mod Cases
+pub mod Verdicts
 pub mod Looking

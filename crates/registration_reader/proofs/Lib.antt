@@ -1,3 +1,4 @@
+pub mod Verdicts
 pub mod Placing
 pub mod PairParts
 pub mod Stages

@@ -1,5 +1,5 @@
--- The program's loop over the lines: each turn computes the answer to one line, and at the end all are computed. Assumes nothing.
-use Rattle.std.proofs.Common.{ℕ, ◌+◌, ◌≤◌, ◌<◌, ◌≡◌, refl, sym, ap, ◌∙◌, List, [], ◌∷◌, ◌++◌, length, take, drop, append_assoc, append-nil, Result, Ok, Err, arith}
+-- The program's loop over the lines: it begins with no bytes computed, each turn computes the answer to one line, and at the end all are computed. Assumes nothing.
+use Rattle.std.proofs.Common.{ℕ, ◌+◌, ◌≤◌, ◌<◌, ◌≡◌, refl, sym, ap, ◌∙◌, List, [], ◌∷◌, ◌++◌, length, take, drop, replicate, append_assoc, append-nil, Result, Ok, Err, arith}
 use borrow.Author.Tests.{le-ltb}
 use lib.Seq.{take-append_seam}
 use Rattle.std.specs.Result.{IsOk}
@@ -10,11 +10,17 @@ use Rattle.lines.specs.Line.{first_line, after_line}
 use Rattle.service.specs.declared.Service.{Service}
 use Rattle.event_calls.specs.Replies.{reply_to}
 use Rattle.event_calls.specs.Promises.{answer_most, Replies}
-use Rattle.event_text.specs.Share.{lines_of, answers_to}
-use Rattle.event_text.specs.Promises.{room_verdict, Answers}
+use Rattle.event_text.specs.declared.Opened.{Opened}
+use Rattle.event_text.specs.Share.{lines_of, answers_to, share}
+use Rattle.event_text.specs.Promises.{Opens, room_verdict, Answers}
 use Rattle.event_text.proofs.Cutting.{lines_none}
 use Rattle.event_text.proofs.Laws.{answered_by_lines}
+use Rattle.event_text.proofs.Sharing.{opened_answers}
 use Rattle.share.proofs.Written.{Written}
+
+-- at first no bytes are computed
+pub nothing_written : (input : List ℕ) (opened : Opened) → Opens input (Ok opened) → Written (share input) opened.service (replicate 3000 0) opened.events.now []
+nothing_written input opened e = record { whole = opened_answers input opened e }
 
 -- in a buffer with room a line is answered
 module _ (s : Service) (j line buffer : List ℕ) (h : answer_most ≤ length buffer) (s' : Service) (j' buffer' : List ℕ) where
