@@ -31,6 +31,19 @@ unfolding entries
 length_entries zero j = refl
 length_entries (suc n) j = ap suc (length_entries n (drop 3 j))
 
+-- one entry more is the next one, after those before it
+entry_at_drop : (j : List ℕ) (i : ℕ) → entry_at (drop 3 j) i ≡ entry_at j (suc i)
+entry_at_drop j i =
+    let a : 3 + 3 * i ≡ 3 * suc i = omega arith in
+    let b : 3 + (3 * i + 1) ≡ 3 * suc i + 1 = omega arith in
+    let c : 3 + (3 * i + 2) ≡ 3 * suc i + 2 = omega arith in
+    cc (get_or-drop 3 j (3 * i) 0, get_or-drop 3 j (3 * i + 1) 0, get_or-drop 3 j (3 * i + 2) 0)
+
+pub entries_snoc : (i : ℕ) (j : List ℕ) → entries (suc i) j ≡ entries i j ++ (entry_at j i ∷ [])
+unfolding entries
+entries_snoc zero j = refl
+entries_snoc (suc i) j = cc (entries_snoc i (drop 3 j), entry_at_drop j i)
+
 -- emptied entries have three numbers each, all of them 0
 length_emptied : (emptied : ℕ) → length (emptied_numbers emptied) ≡ 3 * emptied
 length_emptied emptied = simp length-replicate (omega arith)
