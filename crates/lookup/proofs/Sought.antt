@@ -4,7 +4,6 @@ use Rattle.std.proofs.Common.{◌≡◌, ℕ, ◌+◌, ◌≤◌, Bool, true, fa
 use borrow.Author.Tests.{eqb-false, eq-eqb, ne_eqb}
 use mathlib.Core.Bool.{false≢true}
 use Rattle.std.specs.Prelude.{Option, None, Some}
-use Rattle.std.specs.List.{fold, list_any}
 use Rattle.lists.proofs.Cases.{by_test}
 use Rattle.lists.proofs.Below.{and_late, or_neither}
 use Rattle.journal.specs.Value.{Value, value_in}
@@ -16,14 +15,6 @@ use Rattle.lookup.specs.Mean.{sum_of}
 use Rattle.lookup.specs.Substitutes.{existing}
 use Rattle.lookup.specs.Working.{is_this, is_sought, without}
 use Rattle.lookup.proofs.Newest.{value_shown_at, value_then}
-
--- ---- one after the other
--- a test of each of a list's items, with what was found before it
-pub any_fold : {X : Type 0} (test : X → Bool) (found : Bool) (xs : List X) → fold (λ (b : Bool) (x : X). b || test x) found xs ≡ (found || list_any test xs)
-any_fold test true [] = refl
-any_fold test false [] = refl
-any_fold test true (x ∷ xs) = any_fold test true xs
-any_fold test false (x ∷ xs) = any_fold test (test x) xs
 
 -- ---- values that need not exist
 -- what one gives to the sum

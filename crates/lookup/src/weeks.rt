@@ -1,10 +1,10 @@
 // A point's readings in the four earlier weeks, looked up in the journal when they are needed, in one pass back for a point, and their mean.
-ghost use Rattle.std.specs.Prelude.{◌≡◌, ◌*◌, ◌<◌, ◌≤◌, ◌&&◌, map, nat_le, SomeIff};
+ghost use Rattle.std.specs.Prelude.{◌≡◌, ◌*◌, ◌<◌, ◌≤◌, map, SomeIff};
 ghost use Rattle.values.specs.Values.{magnitude_most};
 ghost use Rattle.journal.specs.Stored.{entries_in};
 ghost use Rattle.lookup.specs.Mean.{nearest};
 ghost use Rattle.lookup.specs.Substitutes.{existing};
-ghost use Rattle.lookup.specs.Working.{earlier_values, nowhere, earlier_place, all_sought, is_sought, without, passed, first_near, is_near, Summed};
+ghost use Rattle.lookup.specs.Working.{earlier_values, nowhere, earlier_place, all_sought, without, passed, first_near, is_near, Summed};
 
 use super::Lookup;
 use journal::Entry;
@@ -37,31 +37,18 @@ fn left(places: [Option<u64>; 4], place: u64) -> [Option<u64>; 4]
     places.map(|sought| sought.filter(|other| *other != place))
 }
 
-// Whether a place is one of those that are sought. All four are looked at, since a test that ends at the first one found takes more time: which of them an
-// entry is cannot be foretold.
-fn is_sought(places: &[Option<u64>; 4], place: u64) -> bool
-    ensures { result ≡ is_sought place places.now }
-{
-    places.iter().fold(false, |found, sought| {
-        found | sought.is_some_and(|other| other == place)
-    })
-}
-
 impl Weeks {
-    // One entry of the pass: where its place is sought, and it is not later than `until`, its week is met. Returns whether it was.
+    // One entry of the pass: where its place is sought, and it is not later than `until`, its week is met.
     #[tactic(auto, unfolding(crate::specs::Working::passed))]
-    fn pass(&mut self, entry: Entry, until: u64) -> bool
+    fn pass(&mut self, entry: Entry, until: u64)
         requires { (self.old.sum ≤ 4 * magnitude_most) × (self.old.count ≤ 4) × (entry.stored ≤ magnitude_most) }
-        ensures weeks { self.new ≡ passed until entry self.old }
-        ensures met { result ≡ (is_sought entry.place self.old.places && nat_le entry.stamp until) }
+        ensures { self.new ≡ passed until entry self.old }
     {
-        let met = is_sought(&self.places, entry.place) && entry.stamp <= until;
-        if met {
+        if self.places.contains(&Some(entry.place)) && entry.stamp <= until {
             self.places = left(self.places, entry.place);
             self.sum += entry.stored;
             self.count += 1;
         }
-        met
     }
 
     // The mean of the magnitudes met, rounded to the nearest whole number, halves up; none where no week was met.
@@ -133,7 +120,8 @@ impl Lookup<'_> {
             if !is_near(near, numbers[1]) {
                 continue;
             }
-            if weeks.pass(Entry::from(*numbers), self.asked.until) && weeks.count == WEEKS {
+            weeks.pass(Entry::from(*numbers), self.asked.until);
+            if weeks.count == WEEKS {
                 return weeks;
             }
         }

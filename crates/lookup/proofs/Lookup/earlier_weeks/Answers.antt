@@ -40,7 +40,7 @@ returns-then-weeks-eq-WEEKS c =
     let xs = a.entries.now in
     let l = c.loop-numbers in
     let t = met_back xs _ (cc) l.yielded _ l.yielded_by _ _ c.in-Some.numbers c.in-Some.is c.next.ensures.steps in
-    let back = passing_back xs a.asked c.args.point known.right (length xs - length l.yielded) l.weeks (omega arith) l.invariant c.pass.new.self (rw (c.from.ensures, t.1) at c.pass.ensures.weeks) in
+    let back = passing_back xs a.asked c.args.point known.right (length xs - length l.yielded) l.weeks (omega arith) l.invariant c.pass.new.self (rw (c.from.ensures, t.1) at c.pass.ensures) in
     passing_met xs a.asked c.args.point (length xs - length l.yielded - 1) c.pass.new.self back (omega (arith, c.if-weeks-eq-WEEKS.true))
 
 pub loop-numbers-preserved-then-not-is_near : goal.loop-numbers-preserved-then-not-is_near
@@ -62,7 +62,7 @@ loop-numbers-preserved c =
     let l = c.loop-numbers in
     let t = met_back xs _ (cc) l.yielded _ l.yielded_by _ _ c.in-Some.numbers c.in-Some.is c.next.ensures.steps in
     let fewer : length xs - length (l.yielded ++ (c.in-Some.numbers ∷ [])) ≡ length xs - length l.yielded - 1 = omega (arith, length_push l.yielded c.in-Some.numbers) in
-    rw fewer (passing_back xs a.asked c.args.point known.right (length xs - length l.yielded) l.weeks (omega arith) l.invariant c.pass.new.self (rw (c.from.ensures, t.1) at c.pass.ensures.weeks))
+    rw fewer (passing_back xs a.asked c.args.point known.right (length xs - length l.yielded) l.weeks (omega arith) l.invariant c.pass.new.self (rw (c.from.ensures, t.1) at c.pass.ensures))
 
 pub returns : goal.returns
 returns c =
