@@ -103,8 +103,8 @@ fn put_parts(
     put_origins(&mut page, values);
 }
 
-// The magnitudes of the points' values: of all 64, as they are looked up. By number, and not by the library's `map`, which is slower here: it moves a copy
-// of the values into an array of options, and takes them out of it again.
+// The magnitudes of the points' values: of all 64, as they are looked up. By number, and not by the library's `map`, which is slower here: it takes the
+// values as a copy.
 fn magnitudes(values: &[PointValue; 64]) -> [u64; 64]
     ensures { (point : ℕ) → point < 64 → get_or result point 0 ≡ (value_of_point values.now point).magnitude }
 {
