@@ -12,6 +12,7 @@ pub mod Earlier
 pub mod Matched
 pub mod Sought
 pub mod Apart
+pub mod NearEnd
 pub mod Passing
 pub mod Alike
 pub mod Greatest

@@ -1,15 +1,6 @@
 -- The entries that a pass over a journal has passed, and the next one: what is right of all entries is right of these. Assumes nothing.
-use Rattle.std.proofs.Common.{◌≡◌, ℕ, suc, ◌-◌, ◌*◌, ◌<◌, ◌≤◌, true, ltb, leb, List, [], ◌∷◌, ◌++◌, length, get_or, take, drop, reverse, ap, sym, ◌∙◌, refl, take-append-drop, arith, ltb-true, leb-true, lt-ltb, le-leb}
+use Rattle.std.proofs.Common.{◌≡◌, ℕ, suc, ◌*◌, ◌<◌, ◌≤◌, true, ltb, leb, List, [], ◌∷◌, ◌++◌, length, get_or, take, drop, ap, sym, ◌∙◌, refl, take-append-drop, arith, ltb-true, leb-true, lt-ltb, le-leb}
 use Rattle.std.proofs.Math.Seq.{take-suc}
-use Rattle.std.proofs.lemmas.List.{length-reverse, get_or-reverse, get_or_default}
-use Rattle.std.proofs.lemmas.Iterator.Adapters.{YieldsList-from_rev_slice}
-use Rattle.std.proofs.lemmas.Iterator.Consumers.{YieldsList-turn}
-use Rattle.std.specs.Prelude.{Option, Some}
-use Rattle.std.specs.Iterator.{Yields}
-use Rattle.std.specs.Iterator.Adapters.{rev_source, rev_steps}
-use Rattle.std.specs.Slice.Iter.{iter_rest, iter_steps_back}
-use Rattle.std.specs.declared.iter.Rev.{Rev}
-use Rattle.std.proofs.Common.{Iter, Bor}
 use Rattle.lists.proofs.Those.{map_append}
 use Rattle.calendar.specs.Quarters.{quarter_exists}
 use Rattle.journal.specs.declared.Entry.{Entry}
@@ -63,19 +54,3 @@ module _ (xs : List (List ℕ)) (i : ℕ) (h : i < length xs) where
         let p = ltb-true (point_in e.place) r.points k.0 in
         let s = leb-true e.stored magnitude_most k.3 in
         (omega (arith, r.all.few), s)
-
--- an entry met from the end back, once k are passed
-from_the_end : (xs : List (List ℕ)) (k : ℕ) (x : List ℕ) → (k < length (reverse xs)) × (x ≡ get_or (reverse xs) k x)
-    → (k < length xs) × (x ≡ get_or xs (length xs - k - 1) [])
-from_the_end xs k x h =
-    let l : k < length xs = omega (arith, length-reverse xs) in
-    let same : length xs - 1 - k ≡ length xs - k - 1 = omega arith in
-    (l, h.1 ∙ get_or-reverse xs k x l ∙ rw same (get_or_default xs (length xs - k - 1) x [] (omega arith)))
-
--- so it is with the entry that a pass back meets
-pub met_back : (xs : List (List ℕ)) (s : Rev (Iter (List ℕ))) → iter_rest (rev_source s) ≡ xs
-    → (yielded : List (Bor (List ℕ))) (t : Rev (Iter (List ℕ))) → Yields (rev_steps iter_steps_back) s yielded t
-    → (r : Option (Bor (List ℕ))) (u : Rev (Iter (List ℕ))) (x : Bor (List ℕ)) → r ≡ Some x → rev_steps iter_steps_back t r u
-    → (length yielded < length xs) × (x.now ≡ get_or xs (length xs - length yielded - 1) [])
-met_back xs s e yielded t y r u x i n =
-    from_the_end xs (length yielded) x.now (YieldsList-turn (YieldsList-from_rev_slice {s = s} xs e) yielded t y r u x i n)

@@ -1,6 +1,6 @@
 -- The pass back through a journal, as it stands where i entries are left: what has been met and what is left give the earlier weeks' sum and number.
 -- Assumes nothing.
-use Rattle.std.proofs.Common.{◌≡◌, ℕ, suc, ◌+◌, ◌-◌, ◌*◌, ◌<◌, ◌≤◌, true, false, ◌&&◌, leb, List, [], ◌∷◌, length, get_or, take, sym, refl, ap, ◌∙◌, true≢false, arith}
+use Rattle.std.proofs.Common.{◌≡◌, ℕ, zero, suc, ◌+◌, ◌-◌, ◌*◌, ◌<◌, ◌≤◌, true, false, ◌&&◌, leb, List, [], ◌∷◌, length, get_or, take, sym, refl, ap, ◌∙◌, true≢false, arith}
 use Rattle.std.proofs.lemmas.List.{take_all}
 use Rattle.lists.proofs.Cases.{by_test}
 use Rattle.lists.proofs.Below.{and_left, and_right}
@@ -13,7 +13,7 @@ use Rattle.lookup.specs.declared.Asked.{Asked}
 use Rattle.lookup.specs.declared.weeks.Weeks.{Weeks}
 use Rattle.lookup.specs.Mean.{sum_of}
 use Rattle.lookup.specs.Substitutes.{existing}
-use Rattle.lookup.specs.Working.{earlier_values, first_near, is_near, is_sought, all_sought, met, passed, Summed}
+use Rattle.lookup.specs.Working.{earlier_values, first_near, is_near, near_end, is_sought, all_sought, met, passed, Summed}
 use Rattle.lookup.proofs.Passed.{entries_next, next_rising, next_bounds}
 use Rattle.lookup.proofs.Sought.{values, values_none, Once, count_within, was_sought, still_once, values_passed, gives}
 use Rattle.lookup.proofs.Apart.{once_all, near_all, values_all}
@@ -123,13 +123,18 @@ module _ (xs : List (List ℕ)) (asked : Asked) (point : ℕ) where
           (λ s. absurd (true≢false (sym (p.near e.place s) ∙ f)))
           (λ n. passing_by (rw n))
 
-    -- one entry further back, where `end` are left: it is passed, or is of no near place
-    module _ (end : ℕ) (weeks : Weeks) (some : 0 < end) (p : Passing end weeks) where
-      last : end ≡ suc (end - 1)
-      last = omega arith
+    -- the entries at the end that are of no near place are passed by
+    pub passing_near : (i : ℕ) (weeks : Weeks) → Passing i weeks → Passing (near_end (first_near point asked) xs i) weeks
+    unfolding near_end
+    passing_near zero weeks p = p
+    passing_near (suc i) weeks p =
+        by_test (is_near (first_near point asked) (entry_in (get_or xs i [])).place)
+        (λ t. rw t p)
+        (λ f. rw f (passing_near i weeks (passing_far i weeks (omega (arith, p.within)) p f)))
 
-      pub passing_back : (next : Weeks) → next ≡ passed asked.until (entry_in (get_or xs (end - 1) [])) weeks → Passing (end - 1) next
-      passing_back next e = rw e (passing_next (end - 1) weeks (omega (arith, p.within)) (rw last at p))
-
-      pub passing_over : is_near (first_near point asked) (entry_in (get_or xs (end - 1) [])).place ≡ false → Passing (end - 1) weeks
-      passing_over f = passing_far (end - 1) weeks (omega (arith, p.within)) (rw last at p) f
+    -- one entry further back, where `end` are left
+    pub passing_back : (end : ℕ) (weeks : Weeks) → 0 < end → Passing end weeks → (next : Weeks)
+        → next ≡ passed asked.until (entry_in (get_or xs (end - 1) [])) weeks → Passing (end - 1) next
+    passing_back end weeks some p next e =
+        let last : end ≡ suc (end - 1) = omega arith in
+        rw e (passing_next (end - 1) weeks (omega (arith, p.within)) (rw last at p))

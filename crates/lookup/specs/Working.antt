@@ -1,12 +1,13 @@
 -- What the code works with: what each of 64 points shows in its own quarter hour; the values of all points; and what a pass back through the journal
 -- knows of a point's earlier weeks. Assumes nothing.
-use Rattle.std.specs.Prelude.{◌≡◌, ℕ, ◌+◌, ◌-◌, ◌*◌, ◌<◌, Bool, true, cond, ◌&&◌, List, map, length, get_or, eqb, ◌==◌, nat_le, nat_lt, slice_index, Option, None, Some}
+use Rattle.std.specs.Prelude.{◌≡◌, ℕ, zero, suc, ◌+◌, ◌-◌, ◌*◌, ◌<◌, Bool, true, cond, ◌&&◌, List, [], map, length, get_or, eqb, ◌==◌, nat_le, nat_lt, slice_index, Option, None, Some}
 use Rattle.std.specs.List.{list_any}
 use Rattle.std.specs.Option.{option_map, option_eq}
 use Rattle.calendar.specs.Quarters.{quarter_exists}
 use Rattle.journal.specs.declared.Entry.{Entry}
 use Rattle.journal.specs.Value.{Value, value_in}
 use Rattle.journal.specs.Order.{Reading}
+use Rattle.journal.specs.Stored.{entry_in}
 use Rattle.journal.specs.Readings.{shown, value_shown}
 use Rattle.journal.specs.Entries.{point_places, place_of, readings_at}
 use Rattle.journal.specs.Damage.{Right}
@@ -113,6 +114,12 @@ first_near point asked = place_of point (asked.day - week_days * 4) 1
 -- whether a place is one of so many from the first on
 abbrev pub is_near : (first place : ℕ) → Bool
 is_near first place = nat_le first place && nat_lt place (first + near_places)
+
+-- how many of so many first entries are left without those at the end that are of no near place
+unfoldable pub near_end : (first : ℕ) → (entries : List (List ℕ)) → (count : ℕ) → ℕ
+near_end first entries zero = 0
+near_end first entries (suc count) =
+    cond (is_near first (entry_in (get_or entries count [])).place) (suc count) (near_end first entries count)
 
 -- weeks of which these values have been met
 pub record Summed (values : List ℕ) (weeks : Weeks) : Type 0 where

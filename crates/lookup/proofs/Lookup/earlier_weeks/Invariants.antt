@@ -1,7 +1,11 @@
 -- What the loop of `lookup::Lookup::earlier_weeks` keeps. Assumes nothing.
-use Rattle.std.proofs.Common.{◌-◌, length}
+use Rattle.std.proofs.Common.{◌≡◌}
+use Rattle.lookup.specs.Working.{first_near}
 use Rattle.lookup.proofs.Passing.{Passing}
 use Rattle.lookup.proofs.Lookup.earlier_weeks.Given as goal
 
-abbrev pub invariant-loop-numbers : goal.invariant-loop-numbers
-invariant-loop-numbers l = Passing l.self.entries.now l.self.asked l.point (length l.self.entries.now - length l.yielded) l.weeks
+abbrev pub invariant-loop-end : goal.invariant-loop-end
+invariant-loop-end l = (l.near ≡ first_near l.point l.self.asked) × Passing l.self.entries.now l.self.asked l.point l.end l.weeks
+
+abbrev pub decreases-loop-end : goal.decreases-loop-end
+decreases-loop-end l = l.end
