@@ -108,8 +108,8 @@ impl Lookup<'_> {
         journal::place(point, self.asked.day.saturating_sub(EARLIER_DAYS), 1)
     }
 
-    // How many of the first `count` entries are left without those at the end that are of no near place. A loop of its own: as a test in that of
-    // `earlier_weeks` it took up to a third more time.
+    // How many of the first `count` entries are left without those at the end that are of no near place. A loop of its own, by number: as a test in that
+    // of `earlier_weeks`, which went over the entries, it took up to a third more time.
     fn near_end(&self, count: usize, first: u64) -> usize
         requires { (count ≤ length self.now.entries.now) × (first < nowhere) }
         ensures { result ≡ near_end first self.now.entries.now count }
