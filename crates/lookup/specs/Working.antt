@@ -115,7 +115,7 @@ first_near point asked = place_of point (asked.day - week_days * 4) 1
 abbrev pub is_near : (first place : ℕ) → Bool
 is_near first place = nat_le first place && nat_lt place (first + near_places)
 
--- how many of so many first entries are left without those at the end that are of no near place
+-- how many of the first `count` entries are left once those at the end that are of no near place are left out
 unfoldable pub near_end : (first : ℕ) → (entries : List (List ℕ)) → (count : ℕ) → ℕ
 near_end first entries zero = 0
 near_end first entries (suc count) =

@@ -108,8 +108,9 @@ impl Lookup<'_> {
         journal::place(point, self.asked.day.saturating_sub(EARLIER_DAYS), 1)
     }
 
-    // How many of the first `count` entries are left without those at the end that are of no near place. A loop of its own, by number: as a test in that
-    // of `earlier_weeks`, which went over the entries, it took up to a third more time.
+    // How many of the first `count` entries are left once those at the end that are of no near place are left out. A loop of its own, for speed: with
+    // this test inside a loop of `earlier_weeks` over the entries an evaluation took up to a third more time. By number: a sketch with `rposition` was
+    // slower too.
     fn near_end(&self, count: usize, first: u64) -> usize
         requires { (count ≤ length self.now.entries.now) × (first < nowhere) }
         ensures { result ≡ near_end first self.now.entries.now count }
@@ -131,6 +132,7 @@ impl Lookup<'_> {
         let near = self.first_near(point);
         let mut weeks = self.all_sought(point);
         let mut end = self.near_end(self.entries.len(), near);
+        // by number, as `near_end` gives it
         while end > 0 {
             let i = end - 1;
             weeks.pass(Entry::from(self.entries[i]), self.asked.until);
