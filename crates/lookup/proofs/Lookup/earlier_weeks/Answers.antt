@@ -17,9 +17,8 @@ pub loop-end-init : goal.loop-end-init
 loop-end-init c =
     let a = c.args.self.now in
     let known = readable_in a in
-    let first = c.first_near-near.ensures in
     let none_met = passing_none a.entries.now a.asked c.args.point known.right known.exists in
-    (first, rw (c.near_end-end.ensures, first, c.all_sought-weeks.ensures) (passing_near a.entries.now a.asked c.args.point known.right (length a.entries.now) _ none_met))
+    rw (c.near_end-end.ensures, c.first_near-near.ensures, c.all_sought-weeks.ensures) (passing_near a.entries.now a.asked c.args.point known.right (length a.entries.now) _ none_met)
 
 pub pass-requires : goal.pass-requires
 pass-requires c =
@@ -27,9 +26,9 @@ pass-requires c =
     let known = readable_in a in
     let xs = a.entries.now in
     let l = c.loop-end in
-    let most = few xs a.asked c.args.point l.end l.weeks l.invariant.1 in
-    let bounds = next_bounds xs (l.end - 1) (omega (arith, l.invariant.1.within)) known.right in
-    (omega (arith, l.invariant.1.small, most), most, rw c.from.ensures bounds.1)
+    let most = few xs a.asked c.args.point l.end l.weeks l.invariant in
+    let bounds = next_bounds xs (l.end - 1) (omega (arith, l.invariant.within)) known.right in
+    (omega (arith, l.invariant.small, most), most, rw c.from.ensures bounds.1)
 
 pub returns-then-weeks-eq-WEEKS : goal.returns-then-weeks-eq-WEEKS
 returns-then-weeks-eq-WEEKS c =
@@ -37,7 +36,7 @@ returns-then-weeks-eq-WEEKS c =
     let known = readable_in a in
     let xs = a.entries.now in
     let l = c.loop-end in
-    let back = passing_back xs a.asked c.args.point known.right l.end l.weeks (omega arith) l.invariant.1 c.pass.new.self (rw c.from.ensures at c.pass.ensures) in
+    let back = passing_back xs a.asked c.args.point known.right l.end l.weeks (omega arith) l.invariant c.pass.new.self (rw c.from.ensures at c.pass.ensures) in
     passing_met xs a.asked c.args.point (l.end - 1) c.pass.new.self back (omega (arith, c.if-weeks-eq-WEEKS.true))
 
 pub near_end-end-requires-in-loop-end : goal.near_end-end-requires-in-loop-end
@@ -45,7 +44,7 @@ near_end-end-requires-in-loop-end c =
     let a = c.args.self.now in
     let known = readable_in a in
     let l = c.loop-end in
-    (omega (arith, l.invariant.1.within), rw l.invariant.0 (first_bound a.asked known.exists c.args.point c.requires))
+    (omega (arith, l.invariant.within), rw c.first_near-near.ensures (first_bound a.asked known.exists c.args.point c.requires))
 
 pub loop-end-smaller : goal.loop-end-smaller
 loop-end-smaller c =
@@ -58,11 +57,11 @@ loop-end-preserved c =
     let known = readable_in a in
     let xs = a.entries.now in
     let l = c.loop-end in
-    let back = passing_back xs a.asked c.args.point known.right l.end l.weeks (omega arith) l.invariant.1 c.pass.new.self (rw c.from.ensures at c.pass.ensures) in
-    (l.invariant.0, rw (c.near_end-end-in-loop-end.ensures, l.invariant.0) (passing_near xs a.asked c.args.point known.right (l.end - 1) c.pass.new.self back))
+    let back = passing_back xs a.asked c.args.point known.right l.end l.weeks (omega arith) l.invariant c.pass.new.self (rw c.from.ensures at c.pass.ensures) in
+    rw (c.near_end-end-in-loop-end.ensures, c.first_near-near.ensures) (passing_near xs a.asked c.args.point known.right (l.end - 1) c.pass.new.self back)
 
 pub returns : goal.returns
 returns c =
     let a = c.args.self.now in
     let l = c.loop-end in
-    passing_all a.entries.now a.asked c.args.point l.end l.weeks l.invariant.1 (omega (arith, c.loop-end-test.false))
+    passing_all a.entries.now a.asked c.args.point l.end l.weeks l.invariant (omega (arith, c.loop-end-test.false))

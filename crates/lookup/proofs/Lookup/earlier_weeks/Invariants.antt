@@ -1,11 +1,9 @@
 -- What the loop of `lookup::Lookup::earlier_weeks` keeps. Assumes nothing.
-use Rattle.std.proofs.Common.{◌≡◌}
-use Rattle.lookup.specs.Working.{first_near}
 use Rattle.lookup.proofs.Passing.{Passing}
 use Rattle.lookup.proofs.Lookup.earlier_weeks.Given as goal
 
 abbrev pub invariant-loop-end : goal.invariant-loop-end
-invariant-loop-end l = (l.near ≡ first_near l.point l.self.asked) × Passing l.self.entries.now l.self.asked l.point l.end l.weeks
+invariant-loop-end l = Passing l.self.entries.now l.self.asked l.point l.end l.weeks
 
 abbrev pub decreases-loop-end : goal.decreases-loop-end
 decreases-loop-end l = l.end

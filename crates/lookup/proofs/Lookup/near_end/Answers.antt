@@ -1,10 +1,7 @@
 -- `lookup::Lookup::near_end` meets its contract: the entries passed are of no near place. Assumes nothing.
-use Rattle.std.proofs.Common.{sym, refl, ◌∙◌, arith}
+use Rattle.std.proofs.Common.{sym, ◌∙◌, arith}
 use Rattle.lookup.proofs.NearEnd.{near_none, near_here, near_before}
 use Rattle.lookup.proofs.Lookup.near_end.Goals as goal
-
-pub loop-i-init : goal.loop-i-init
-loop-i-init c = refl
 
 pub returns-then-is_near : goal.returns-then-is_near
 returns-then-is_near c =
